@@ -29,12 +29,22 @@ pub enum ExportError {
 }
 
 impl From<Unavailable> for ExportError {
+    ghost use Rattle.std.specs.Prelude.{◌≡◌};
+    ghost use Rattle.acct_files.specs.declared.csv_lines.ExportError.TheVariants as error;
+
+    ghost from_gives = { λ _ told. told ≡ error.Unavailable };
+
     fn from(_error: Unavailable) -> ExportError {
         ExportError::Unavailable
     }
 }
 
 impl From<NoMemory> for ExportError {
+    ghost use Rattle.std.specs.Prelude.{◌≡◌};
+    ghost use Rattle.acct_files.specs.declared.csv_lines.ExportError.TheVariants as error;
+
+    ghost from_gives = { λ _ told. told ≡ error.Memory };
+
     fn from(_error: NoMemory) -> ExportError {
         ExportError::Memory
     }

@@ -47,9 +47,9 @@ impl From<AllocError> for InputFault {
 pub fn read_input<R: Read>(alloc: Global, reader: &mut R) -> Result<Vec<u8>, InputFault>
     ensures whole { IfOk result (λ octets.
         IfSome (R.remaining reader.old) (λ all. octets.items ≡ all)) }
-    ensures bounded { IfOk result (λ octets. vec_len octets ≤ MOST_OCTETS) }
+    ensures bounded { IfOk result (λ octets. vec_len octets ≤ 16777216) }
     ensures too_long { IfErr result (λ fault. fault ≡ too_long
-        → IfSome (R.remaining reader.old) (λ all. MOST_OCTETS < length all)) }
+        → IfSome (R.remaining reader.old) (λ all. 16777216 < length all)) }
 {
     let mut octets = Vec::new(alloc);
     let mut block = [0; BLOCK];

@@ -14,7 +14,7 @@ use Rattle.acct_book_forward.proofs.CarriedOn.{joined_on, told_on}
 use Rattle.acct_program_args.specs.declared.job.Carrying.{Carrying}
 use Rattle.acct_program_commands.specs.Forwarding.{selected, Forwards, LiesFarBack, IsTimely}
 use Rattle.acct_program_commands.specs.Forwarding.{IsHeardOf, IsHeardIn, MayCarry}
-use Rattle.std.proofs.Common.{ℕ, Option, Some, None, ◌≢◌}
+use Rattle.std.proofs.Common.{ℕ, Option, Some, ◌≢◌}
 
 -- calls that only read carry nothing
 only_on : {B T E : Type 0} (b : Ghosts B) (selection : SelectionFacts) (plans : List Plan)

@@ -1,6 +1,6 @@
 -- What `forward` does.
-use Rattle.std.specs.Prelude.{◌≡◌, ◌⊎◌, ◌≤◌, ℕ, ◌+◌, ◌-◌, ◌*◌, Bool, true, false, Option, Some}
-use Rattle.std.specs.Prelude.{None, bytes_eq}
+use Rattle.std.specs.Prelude.{◌≡◌, ◌⊎◌, ◌≤◌, ℕ, ◌+◌, ◌-◌, ◌*◌, Bool, true, false}
+use Rattle.std.specs.Prelude.{Option, Some, None, bytes_eq}
 use Rattle.std.specs.Prelude.{IfSome, Result, List}
 use Rattle.std.specs.List.{list_any}
 use Rattle.acct_model.specs.declared.plan.Plan.{Plan}
@@ -13,6 +13,9 @@ use Rattle.acct_program_args.specs.declared.job.Carrying.{Carrying}
 use Rattle.acct_program_args.specs.declared.job.Cutoff.{Cutoff}
 use Rattle.acct_program_args.specs.declared.job.Cutoff.TheVariants.{Before, At}
 use Rattle.acct_program_args.specs.Orders.{seconds_of}
+use Rattle.acct_program_commands.specs.declared.fault.Fault.{Fault}
+use Rattle.acct_program_commands.specs.declared.fault.Fault.TheVariants as fault
+use Rattle.acct_program_commands.specs.declared.fault.StoreFault.TheVariants as store
 
 -- the moment from which ended sessions stay: so many days of 86,400 seconds before now
 abbrev pub cutoff_at : ℕ → Cutoff → ℕ
@@ -81,6 +84,29 @@ abbrev pub MayCarry : {B : Type 0} → Ghosts B → SelectionFacts → B → Boo
 MayCarry b selection book is_sure moment written_at carried = (carried ≡ 0)
     ⊎ ((is_sure ≡ true)
     ⊎ (b.is_sound book → IsTimely selection (b.content book) moment written_at))
+
+-- the book failed, or an allocation or the output did
+abbrev pub IsListFault : Fault → Type 0
+IsListFault told =
+    (told ≡ fault.Store store.Unavailable) ⊎ ((told ≡ fault.NoMemory) ⊎ (told ≡ fault.CannotWrite))
+
+-- nobody confirmed the clock, and it may be wrong: no session tells, or the files do not agree
+abbrev pub IsClockFault : Bool → ℕ → ℕ → Fault → Type 0
+IsClockFault is_sure now written_at told = (is_sure ≡ false)
+    × ((told ≡ fault.ClockAhead) ⊎ ((told ≡ fault.ClockApart) × ¬ Agrees now written_at))
+
+-- a moment is less than 30 days back, or not as far as a server of the book accepts reports
+abbrev pub IsCutoffFault : SelectionFacts → Option ℕ → ℕ → Fault → Type 0
+IsCutoffFault selection oldest now told =
+    ((told ≡ fault.CutoffTooLate) × ¬ LieBack selection (30 * 86400) now)
+    ⊎ ((told ≡ fault.CutoffInReach)
+    × ¬ IfSome (seconds_of oldest) (λ s. LieBack selection s now))
+
+-- why a run of `forward` ended early
+abbrev pub IsForwardFault : Carrying → ℕ → ℕ → Fault → Type 0
+IsForwardFault carrying now written_at told =
+    IsCutoffFault (selected carrying now) carrying.oldest_report now told
+    ⊎ (IsClockFault carrying.is_sure now written_at told ⊎ IsListFault told)
 
 -- A run of `forward` at a moment, over files that were last changed at another one. The requested
 -- sessions were carried, as far as the run got. None were if this was a dry run, if late reports of

@@ -9,7 +9,9 @@ pub mod Forwarding
 pub mod Fresh
 pub mod Imports
 pub mod KeptNames
+pub mod Looks
 pub mod NewSite
+pub mod Rounds
 pub mod Sights
 pub mod Tally
 pub mod Told

@@ -1,5 +1,6 @@
 -- What private functions and proofs need, and no public contract reaches.
 pub mod Minutes
 pub mod Names
+pub mod Stops
 pub mod Sums
 pub mod ToldDrops

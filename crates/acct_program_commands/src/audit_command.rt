@@ -3,6 +3,7 @@ ghost use Rattle.std.specs.Prelude.{◌≡◌, ◌≢◌, ◌↔◌, None, IfOk,
 ghost use Rattle.acct_book.specs.Step.{Looks};
 ghost use Rattle.acct_book_audit.specs.Audit.{IsClean};
 ghost use Rattle.acct_program_commands.specs.Auditing.{Audits, AllBalance};
+ghost use Rattle.acct_program_commands.specs.inner.Stops.{stopped_fault};
 
 use crate::check::write_sizes;
 use crate::fault::{Fault, StoreFault};
@@ -99,18 +100,33 @@ enum Stopped {
 }
 
 impl From<Unavailable> for Stopped {
+    ghost use Rattle.std.specs.Prelude.{◌≡◌};
+    ghost use Rattle.acct_program_commands.specs.declared.audit_command.Stopped.TheVariants.{Store};
+
+    ghost from_gives = { λ _ why. why ≡ Store };
+
     fn from(_error: Unavailable) -> Stopped {
         Stopped::Store
     }
 }
 
 impl From<NoMemory> for Stopped {
+    ghost use Rattle.std.specs.Prelude.{◌≡◌};
+    ghost use Rattle.acct_program_commands.specs.declared.audit_command.Stopped.TheVariants.{Memory};
+
+    ghost from_gives = { λ _ why. why ≡ Memory };
+
     fn from(_error: NoMemory) -> Stopped {
         Stopped::Memory
     }
 }
 
 impl From<io::Error> for Stopped {
+    ghost use Rattle.std.specs.Prelude.{◌≡◌};
+    ghost use Rattle.acct_program_commands.specs.declared.audit_command.Stopped.TheVariants.{Output};
+
+    ghost from_gives = { λ _ why. why ≡ Output };
+
     fn from(_error: io::Error) -> Stopped {
         Stopped::Output
     }
@@ -118,7 +134,7 @@ impl From<io::Error> for Stopped {
 
 // The fault to report for it.
 fn fault_of(why: Stopped) -> Fault
-    ensures { result ≢ Fault.Unbalanced }
+    ensures { result ≡ stopped_fault why }
 {
     match why {
         Stopped::Store => Fault::Store(StoreFault::Unavailable),

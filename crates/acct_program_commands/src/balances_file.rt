@@ -77,7 +77,7 @@ impl<'r, R: ReplacesFiles> KeptBalances<'r, R> {
             }
             Err(fault) => Err(fault),
         };
-        let _ = self.file.note("balances", noted, errors);
+        let _ = self.file.note(Some(moment), "balances", noted, errors);
     }
 }
 

@@ -3,7 +3,7 @@
 //! A server goes on with the files that it opened. If a name leads to another file, or to none, what
 //! it records is in no file that the next start finds. So it is looked at while the server runs.
 ghost use Rattle.std.specs.Prelude.{◌≡◌, ◌⊎◌, false, None, Some, IfOk, not};
-ghost use Rattle.acct_program_commands.specs.inner.Names.{KeepsName};
+ghost use Rattle.acct_program_commands.specs.inner.Names.{KeepsName, away_of};
 
 use crate::gauges::Gauges;
 use acct_model::Text;
@@ -18,7 +18,7 @@ pub struct BookNames<'r, R> {
     book: Name,
     log: Name,
     // When they were looked at, in seconds since 1970.
-    looked_at: u64,
+    looked_at: Option<u64>,
     is_told: bool,
 }
 
@@ -42,7 +42,7 @@ impl<'r, R: ReadsFiles> BookNames<'r, R> {
     /// If there is no memory for the names.
     pub fn new(runtime: &'r R, alloc: Global, book: &Text) -> Result<BookNames<'r, R>, AllocError>
         ensures book { IfOk result (λ names. names.book.path ≡ book.now) }
-        ensures unseen { IfOk result (λ names. (names.looked_at ≡ 0) × (names.is_told ≡ false)) }
+        ensures unseen { IfOk result (λ names. (names.looked_at ≡ None) × (names.is_told ≡ false)) }
     {
         let name = book.as_str();
         let log = log_of(runtime, alloc, name)?;
@@ -50,7 +50,7 @@ impl<'r, R: ReadsFiles> BookNames<'r, R> {
             runtime,
             book: Name::new(book.copy(alloc)?),
             log: Name::new(log),
-            looked_at: 0,
+            looked_at: None,
             is_told: false,
         };
         names.lead_elsewhere();
@@ -61,14 +61,14 @@ impl<'r, R: ReadsFiles> BookNames<'r, R> {
     /// leads elsewhere. If the next look finds that, too, or finds them back, a line says so. A look
     /// that fails tells nothing, and all stays as it was.
     pub fn look<E: Write>(&mut self, moment: u64, gauges: &Gauges, errors: &mut E)
-        ensures looked { self.new.looked_at ≡ moment }
+        ensures looked { self.new.looked_at ≡ Some moment }
         ensures book { KeepsName self.old.book self.new.book }
         ensures log { KeepsName self.old.log self.new.log }
     {
-        if moment == self.looked_at {
+        if self.looked_at == Some(moment) {
             return;
         }
-        self.looked_at = moment;
+        self.looked_at = Some(moment);
         let was_away = gauges.is_away();
         let Some(is_away) = self.lead_elsewhere() else {
             return;
@@ -94,11 +94,7 @@ impl<'r, R: ReadsFiles> BookNames<'r, R> {
     {
         let book = self.book.leads_elsewhere(self.runtime);
         let log = self.log.leads_elsewhere(self.runtime);
-        match (book, log) {
-            (Some(true), _) | (_, Some(true)) => Some(true),
-            (Some(false), Some(false)) => Some(false),
-            (_, _) => None,
-        }
+        away_of(book, log)
     }
 
     // Writes a line about the book's name.
@@ -109,6 +105,17 @@ impl<'r, R: ReadsFiles> BookNames<'r, R> {
         let name = self.book.path.as_str();
         let _ = writeln!(errors, "db: the name of {name}, or of its log, {what}");
         let _ = errors.flush();
+    }
+}
+
+// Whether one of two names leads elsewhere, by what is known of each: one that fails tells nothing.
+fn away_of(book: Option<bool>, log: Option<bool>) -> Option<bool>
+    ensures { result ≡ away_of book log }
+{
+    match (book, log) {
+        (Some(true), _) | (_, Some(true)) => Some(true),
+        (Some(false), Some(false)) => Some(false),
+        (_, _) => None,
     }
 }
 

@@ -3,7 +3,7 @@ ghost use Rattle.std.specs.Prelude.{◌≡◌, IfOk, IfErr, OnOk, None};
 ghost use Rattle.std.specs.Io.KnownBytes.{Appends};
 ghost use Rattle.acct_program_commands.specs.Checks.{TellsSizes, IsUnchecked, sizes_line};
 
-use crate::config_file::{config_from, is_waited_for};
+use crate::config_file::{config_from, opened};
 use crate::fault::Fault;
 use acct_model::Text;
 use acct_program::Status;
@@ -29,12 +29,9 @@ pub fn run_check<R: ReadsFiles, W: Write>(
     ensures sizes { OnOk result (TellsSizes None (W.contents output.old) (W.contents output.new)) }
     ensures refused { IfErr result (IsUnchecked None) }
 {
-    if is_waited_for(runtime, file.as_str()) {
-        return Err(Fault::CannotRead);
-    }
-    match runtime.open(file.as_str()) {
-        Ok(mut reader) => check_from(alloc, &mut reader, output),
-        Err(_) => Err(Fault::CannotRead),
+    match opened(runtime, file) {
+        Some(mut reader) => check_from(alloc, &mut reader, output),
+        None => Err(Fault::CannotRead),
     }
 }
 

@@ -50,19 +50,25 @@ pub(crate) fn read_file<R: ReadsFiles>(
     alloc: Global,
     file: &Text,
 ) -> Result<Octets, InputFault> {
-    if is_waited_for(runtime, file.as_str()) {
-        return Err(InputFault::CannotRead);
-    }
-    match runtime.open(file.as_str()) {
-        Ok(mut reader) => octets_of(alloc, &mut reader),
-        Err(_) => Err(InputFault::CannotRead),
+    match opened(runtime, file) {
+        Some(mut reader) => octets_of(alloc, &mut reader),
+        None => Err(InputFault::CannotRead),
     }
 }
 
-/// Whether opening a file could block on another program without end, as with a named pipe. A file
-/// that the program was given open is read as data arrives: standard input, and a shell's
-/// `<(command)`.
-pub(crate) fn is_waited_for<R: ReadsFiles>(runtime: &R, file: &str) -> bool {
+/// A file of a configuration, opened. `None` if it cannot be, or if opening it could block.
+pub(crate) fn opened<R: ReadsFiles>(runtime: &R, file: &Text) -> Option<R::Reader> {
+    let name = file.as_str();
+    if is_waited_for(runtime, name) {
+        return None;
+    }
+    runtime.open(name).ok()
+}
+
+// Whether opening a file could block on another program without end, as with a named pipe. A file
+// that the program was given open is read as data arrives: standard input, and a shell's
+// `<(command)`.
+fn is_waited_for<R: ReadsFiles>(runtime: &R, file: &str) -> bool {
     match runtime.metadata(file) {
         Ok(found) => !found.is_file() && !is_given_open(file),
         Err(_) => false,

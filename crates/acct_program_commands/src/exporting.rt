@@ -1,7 +1,8 @@
 //! `export`: the book as CSV.
-ghost use Rattle.std.specs.Prelude.{IfOk, IfErr};
+ghost use Rattle.std.specs.Prelude.{◌≡◌, IfOk, IfErr};
 ghost use Rattle.acct_book.specs.Step.{Looks};
 ghost use Rattle.acct_program_commands.specs.Exports.{Exports, IsExportFault};
+ghost use Rattle.acct_program_commands.specs.inner.Stops.{export_fault};
 
 use crate::fault::{Fault, StoreFault};
 use acct_book::Book;
@@ -40,8 +41,18 @@ pub fn run_export<B: Book, W: Write + Drop>(
             writer.flush()?;
             Ok(writer)
         }
-        Err(ExportError::Unavailable) => Err(Fault::Store(StoreFault::Unavailable)),
-        Err(ExportError::WriteFault) => Err(Fault::CannotWrite),
-        Err(ExportError::Memory) => Err(Fault::StoreMemory),
+        Err(error) => Err(fault_of(error)),
+    }
+}
+
+// The fault to report for it.
+fn fault_of(error: ExportError) -> Fault
+    ensures fault { result ≡ export_fault error }
+    ensures why { IsExportFault result }
+{
+    match error {
+        ExportError::Unavailable => Fault::Store(StoreFault::Unavailable),
+        ExportError::WriteFault => Fault::CannotWrite,
+        ExportError::Memory => Fault::StoreMemory,
     }
 }

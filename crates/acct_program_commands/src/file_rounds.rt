@@ -3,7 +3,7 @@
 //! changed.
 ghost use Rattle.std.specs.Prelude.{◌≡◌, false};
 ghost use Rattle.acct_book.specs.Step.{OnlyLooks};
-ghost use Rattle.acct_program_commands.specs.NewSite.{LooksAndTakes};
+ghost use Rattle.acct_program_commands.specs.Rounds.{GoesRound, KeepsAt, LooksAt};
 
 use crate::balances_file::KeptBalances;
 use crate::book_names::BookNames;
@@ -77,8 +77,8 @@ impl<'r, R: ReplacesFiles + Clock, S: SiteSource + Drop, E: Write + Drop> FileRo
 
 impl<'r, R: ReplacesFiles + Clock, S: SiteSource + Drop, E: Write + Drop> Rounds
     for FileRounds<'r, R, S, E> {
-    ghost goes = { λ old config gave new.
-        LooksAndTakes config.plans (S.sights old.source) gave (S.sights new.source) };
+    ghost goes = { λ old config gave new. GoesRound config.plans old.balances new.balances
+        old.names new.names (S.sights old.source) gave (S.sights new.source) };
 
     ghost is_over = { λ _. false };
 
@@ -89,10 +89,16 @@ impl<'r, R: ReplacesFiles + Clock, S: SiteSource + Drop, E: Write + Drop> Rounds
         book: &mut B,
     ) -> Option<Config> {
         let moment = moment_of(self.runtime);
-        if let Some(balances) = &mut self.balances {
-            let errors = &mut self.errors;
-            balances.keep(alloc, &config.plans, book, moment, self.gauges, errors);
-        }
+        let (gauges, errors) = (self.gauges, &mut self.errors);
+        keep_at(
+            alloc,
+            &mut self.balances,
+            config,
+            book,
+            moment,
+            gauges,
+            errors,
+        );
         look_at(&mut self.names, moment, self.gauges, &mut self.errors);
         let read = self.source.look(alloc, moment)?;
         let taken = take_site(alloc, read, &config.plans, &mut self.errors);
@@ -108,13 +114,33 @@ impl<'r, R: ReplacesFiles + Clock, S: SiteSource + Drop, E: Write + Drop> Rounds
     }
 }
 
+/// Writes the file of balances, if there is one, and if it is due at a moment.
+pub fn keep_at<R: ReplacesFiles, B: Book, E: Write>(
+    alloc: Global,
+    balances: &mut Option<KeptBalances<'_, R>>,
+    config: &Config,
+    book: &mut B,
+    moment: u64,
+    gauges: &Gauges,
+    errors: &mut E,
+)
+    ensures looks { OnlyLooks B.Book book.old book.new }
+    ensures keeps { KeepsAt moment balances.old balances.new }
+{
+    if let Some(balances) = balances {
+        balances.keep(alloc, &config.plans, book, moment, gauges, errors);
+    }
+}
+
 // Looks where the names of a book lead, if they are known.
 fn look_at<R: ReadsFiles, E: Write>(
     names: &mut Option<BookNames<'_, R>>,
     moment: u64,
     gauges: &Gauges,
     errors: &mut E,
-) {
+)
+    ensures { LooksAt moment names.old names.new }
+{
     if let Some(names) = names {
         names.look(moment, gauges, errors);
     }

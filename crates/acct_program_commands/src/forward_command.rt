@@ -4,13 +4,15 @@
 //! carried, and looks for a session that was heard of lately. If open sessions may be carried, the
 //! second one prints these: a clock that may be wrong prints none. The last one carries.
 ghost use Rattle.std.specs.Prelude.{◌≡◌, ◌≢◌, ◌↔◌, ◌⊎◌, ◌≤◌, ◌<◌, ◌+◌, ◌*◌, ◌^◌, true};
-ghost use Rattle.std.specs.Prelude.{IfOk, IfSome, IsTrue, OnOk, false};
+ghost use Rattle.std.specs.Prelude.{IfErr, IfOk, IfSome, IsTrue, OnOk, false};
 ghost use Rattle.acct_book.specs.Step.{Looks};
 ghost use Rattle.acct_book.specs.Step.{OnlyLooks};
 ghost use Rattle.acct_book_forward.specs.Carrying.{CarriesOn};
 ghost use Rattle.acct_program_commands.specs.Forwarding.{selected, Forwards, LieBack, LieFarBack};
 ghost use Rattle.acct_program_commands.specs.Forwarding.{LiesFarBack, IsHeardAt, IsHeardOf};
 ghost use Rattle.acct_program_commands.specs.Forwarding.{IsHeardIn, Agrees, MayCarry};
+ghost use Rattle.acct_program_commands.specs.Forwarding.{IsClockFault, IsCutoffFault};
+ghost use Rattle.acct_program_commands.specs.Forwarding.{IsForwardFault, IsListFault};
 ghost use Rattle.acct_program_commands.specs.inner.Sums.{AddsUp, as_carried, no_sessions};
 
 use crate::book_clock::ClockReading;
@@ -21,6 +23,7 @@ use acct_model::{Plans, Text, show};
 use acct_program::Status;
 use acct_program_args::{Carrying, Cutoff, seconds_in};
 use std::alloc::{AllocError, Global};
+use std::io;
 use std::io::Write;
 
 /// The seconds of a day.
@@ -180,6 +183,7 @@ pub fn run_forward<B: Book, W: Write, E: Write>(
         book.new result }
     ensures far { OnOk result (LiesFarBack carrying.now clock.moment) }
     ensures other { IfOk result (λ status. status ≢ Status.BadCommandLine) }
+    ensures why { IfErr result (IsForwardFault carrying.now clock.moment clock.written_at) }
 {
     let moment = clock.moment;
     let selection = selection_of(alloc, carrying, moment)?;
@@ -212,6 +216,8 @@ fn look<B: Book, W: Write>(
     ensures answers { B.is_sound book.new → IfOk result (λ totals. B.is_open book.new) }
     ensures timely { IfOk result (λ found. MayCarry B.Book task.now.selection.now book.new
         task.now.is_sure task.now.clock.moment task.now.clock.written_at found.sessions.carried) }
+    ensures why { IfErr result (λ told. IsListFault told
+        ⊎ IsClockFault task.now.is_sure task.now.clock.moment task.now.clock.written_at told) }
 {
     let counting = Looking {
         lists_open: false,
@@ -235,7 +241,7 @@ fn carry<B: Book, E: Write>(
     clock: ClockReading,
     found: Totals,
     progress: &mut E,
-) -> Result<Totals, Fault>
+) -> Result<Totals, Unavailable>
     requires moment { clock.moment < 2 ^ 53 }
     requires selected { selection.now ≡ selected carrying.now clock.moment }
     requires far { LiesFarBack carrying.now clock.moment }
@@ -294,7 +300,8 @@ fn copied(alloc: Global, names: &[Text]) -> Result<Vec<Text>, AllocError>
 fn check_cutoff(selection: &Selection, oldest: Option<u64>, moment: u64) -> Result<(), Fault>
     requires moment { moment < 2 ^ 53 }
     requires days { IfSome oldest (λ days. days ≤ 36500) }
-    ensures { OnOk result (LieFarBack selection.now oldest moment) }
+    ensures far { OnOk result (LieFarBack selection.now oldest moment) }
+    ensures why { IfErr result (IsCutoffFault selection.now oldest moment) }
 {
     if !lie_back(selection, FEWEST_DAYS * DAY, moment) {
         return Err(Fault::CutoffTooLate);
@@ -318,8 +325,9 @@ fn lie_back(selection: &Selection, seconds: u64, moment: u64) -> bool
 // It must agree with what the book says, and with what its files say.
 fn check_clock(found: &Totals, is_sure: bool, clock: ClockReading) -> Result<(), Fault>
     requires { clock.moment < 2 ^ 53 }
-    ensures { OnOk result ((found.now.sessions.carried ≡ 0) ⊎ ((is_sure ≡ true)
+    ensures right { OnOk result ((found.now.sessions.carried ≡ 0) ⊎ ((is_sure ≡ true)
         ⊎ (IsTrue found.now.is_heard × Agrees clock.moment clock.written_at))) }
+    ensures why { IfErr result (IsClockFault is_sure clock.moment clock.written_at) }
 {
     if is_sure || found.sessions.carried == 0 {
         return Ok(());
@@ -362,6 +370,7 @@ fn survey<B: Book, W: Write>(
     ensures heard { B.is_open book.new → IfOk result (λ totals.
         IsTrue totals.is_heard
         → IsHeardIn task.now.selection.now (B.content book.old) task.now.clock.moment) }
+    ensures why { IfErr result IsListFault }
 {
     let mut totals = Totals::new();
     let mut after: Option<Vec<u8>> = None;
@@ -389,6 +398,7 @@ fn survey_account<B: Book, W: Write>(
     ensures heard { B.is_open book.new → IfOk result (λ seen. IsTrue seen.is_heard
         → IsTrue is_heard
         ⊎ IsHeardIn task.now.selection.now (B.content book.old) task.now.clock.moment) }
+    ensures why { IfErr result IsListFault }
 {
     let keys = book.keys_of(account)?;
     let mut seen = Seen {
@@ -410,9 +420,10 @@ fn note<W: Write>(
     output: &mut W,
     seen: &mut Seen,
 ) -> Result<(), Fault>
-    ensures { OnOk result (IsTrue seen.new.is_heard
+    ensures heard { OnOk result (IsTrue seen.new.is_heard
         → IsTrue seen.old.is_heard
         ⊎ IsHeardOf task.now.selection.now found.now task.now.clock.moment) }
+    ensures why { IfErr result IsListFault }
 {
     let Some(row) = found else {
         return Ok(());
@@ -425,7 +436,9 @@ fn note<W: Write>(
     Ok(())
 }
 
-fn write_session<W: Write>(alloc: Global, output: &mut W, row: &Row) -> Result<(), Fault> {
+fn write_session<W: Write>(alloc: Global, output: &mut W, row: &Row) -> Result<(), Fault>
+    ensures { IfErr result IsListFault }
+{
     let (client, last) = (row.client.as_str(), row.last);
     let session = shown(alloc, row.session.as_slice())?;
     let account = shown(alloc, row.account.as_slice())?;
@@ -436,7 +449,9 @@ fn write_session<W: Write>(alloc: Global, output: &mut W, row: &Row) -> Result<(
     Ok(())
 }
 
-fn shown(alloc: Global, octets: &[u8]) -> Result<String, Fault> {
+fn shown(alloc: Global, octets: &[u8]) -> Result<String, Fault>
+    ensures { IfErr result (λ told. told ≡ Fault.NoMemory) }
+{
     match show(alloc, octets) {
         Ok(text) => Ok(text),
         Err(_) => Err(Fault::NoMemory),
@@ -471,7 +486,7 @@ fn carry_all<B: Book, E: Write>(
     moment: u64,
     accounts: u64,
     progress: &mut E,
-) -> Result<Totals, Fault>
+) -> Result<Totals, Unavailable>
     requires { moment < 2 ^ 53 }
     ensures { CarriesOn B.Book selection.now plans.now book.old book.new result }
 {
@@ -486,7 +501,7 @@ fn carry_all<B: Book, E: Write>(
         write_progress(progress, totals.accounts, accounts);
         after = Some(account);
     }
-    Err(Fault::from(Unavailable))
+    Err(Unavailable)
 }
 
 // Prints the progress now and then. A failing writer stops nothing.
@@ -497,7 +512,7 @@ fn write_progress<E: Write>(progress: &mut E, done: u64, accounts: u64) {
     }
 }
 
-fn write_totals<W: Write>(output: &mut W, is_dry: bool, totals: &Totals) -> Result<(), Fault> {
+fn write_totals<W: Write>(output: &mut W, is_dry: bool, totals: &Totals) -> io::Result<()> {
     let (sessions, touched) = (totals.sessions, totals.touched);
     let (carried, open, recent) = (sessions.carried, sessions.still_open, sessions.recent);
     let (kept, too_large) = (sessions.of_kept, sessions.too_large);

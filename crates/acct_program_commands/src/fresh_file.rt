@@ -56,22 +56,16 @@ impl FreshFile {
         })
     }
 
-    /// Whether the file is due at a moment, in seconds since 1970, which is then kept. It is due if
-    /// it was never written, or if the last write began at least `pause` seconds away, whichever
-    /// way the clock went.
-    pub(crate) fn is_due(&mut self, moment: u64) -> bool
-        ensures due { IsTrue result ↔ IsDue self.old.pause self.old.begun_at moment }
-        ensures kept { IsTrue result → self.new ≡ record self.old { begun_at = Some moment } }
-        ensures same { result ≡ false → self.new ≡ self.old }
+    /// Whether the file is due at a moment, in seconds since 1970. It is due if it was never
+    /// written, or if the last write began at least `pause` seconds away, whichever way the clock
+    /// went.
+    pub(crate) fn is_due(&self, moment: u64) -> bool
+        ensures { IsTrue result ↔ IsDue self.now.pause self.now.begun_at moment }
     {
-        let is_due = match self.begun_at {
+        match self.begun_at {
             None => true,
             Some(last) => moment.abs_diff(last) >= self.pause,
-        };
-        if is_due {
-            self.begun_at = Some(moment);
         }
-        is_due
     }
 
     /// Begins a write: opens the file that will replace it. That file gets its mode, whatever the
@@ -93,19 +87,24 @@ impl FreshFile {
         runtime.put_in_place(self.new_name.as_str(), self.name.as_str())
     }
 
-    /// Notes whether a write succeeded. The first failure is printed, and no further one until a
-    /// write succeeds.
+    /// Notes when a write began, if it is known, and whether it succeeded. The first failure is
+    /// printed, and no further one until a write succeeds.
     pub(crate) fn note<E: Write>(
         &mut self,
+        begun_at: Option<u64>,
         what: &'static str,
         written: Result<(), Fault>,
         errors: &mut E,
     ) -> io::Result<()>
-        ensures failing { self.new ≡ record self.old { is_failing = is_err written } }
+        ensures noted { self.new ≡ record self.old {
+          begun_at = begun_at;
+          is_failing = is_err written;
+        } }
         ensures tells { OnOk result (TellsTrouble self.old.is_failing what.now written
             (E.contents errors.old) (E.contents errors.new)) }
     {
         let was_failing = self.is_failing;
+        self.begun_at = begun_at;
         self.is_failing = written.is_err();
         match written {
             Err(fault) if !was_failing => {

@@ -1,5 +1,7 @@
 //! The file of the configuration, which the server polls while it runs.
-ghost use Rattle.std.specs.Prelude.{◌≡◌, ◌↔◌, false, None, Some, IsTrue};
+ghost use Rattle.std.specs.Prelude.{◌≡◌, ◌∷◌, [], None, IsSome, IsTrue};
+ghost use Rattle.acct_service.specs.Told.{Grows};
+ghost use Rattle.acct_program_commands.specs.Looks.{LooksOnce};
 
 use crate::config_file::read_file;
 use crate::site_source::SiteSource;
@@ -57,14 +59,7 @@ impl<'a, R: ReadsFiles> SiteFile<'a, R> {
 
     // Whether the file's metadata differ from those of the last poll.
     fn is_changed(&mut self, moment: u64) -> bool
-        ensures looked { self.new ≡ record self.old {
-          seen = self.new.seen;
-          looked_at = Some moment;
-        } }
-        ensures again { self.old.looked_at ≡ Some moment
-            → (result ≡ false) × (self.new.seen ≡ self.old.seen) }
-        ensures changed { ¬ (self.old.looked_at ≡ Some moment)
-            → (IsTrue result ↔ ¬ (self.new.seen ≡ self.old.seen)) }
+        ensures { LooksOnce moment self.old self.new (IsTrue result) }
     {
         if self.looked_at == Some(moment) {
             return false;
@@ -80,7 +75,10 @@ impl<'a, R: ReadsFiles> SiteFile<'a, R> {
 impl<'a, R: ReadsFiles> SiteSource for SiteFile<'a, R> {
     ghost sights = { λ _. None };
 
-    fn look(&mut self, alloc: Global, moment: u64) -> Option<Result<Octets, InputFault>> {
+    fn look(&mut self, alloc: Global, moment: u64) -> Option<Result<Octets, InputFault>>
+        ensures told { Grows None (result ∷ []) None }
+        ensures looked { LooksOnce moment self.old self.new (IsSome result) }
+    {
         if !self.is_changed(moment) {
             return None;
         }

@@ -213,7 +213,7 @@ impl<'r, R: ReplacesFiles, E: Write> StatusFile<'r, R, E> {
     {
         self.meter.note_mute();
         if self.file.is_due(moment) {
-            self.write();
+            self.write(Some(moment));
         }
         self.meter.note_came(came);
         if let Ok(Some(event)) = came {
@@ -257,9 +257,9 @@ impl<'r, R: ReplacesFiles, E: Write> StatusFile<'r, R, E> {
         self.dropped[place] = self.dropped[place].saturating_add(1);
     }
 
-    // Writes the counts, or prints why it cannot.
-    fn write(&mut self)
-        ensures file { IsBegun self.old.file.begun_at self.old.file self.new.file }
+    // Writes the counts at a moment, if it is known, or prints why it cannot.
+    fn write(&mut self, moment: Option<u64>)
+        ensures file { IsBegun moment self.old.file self.new.file }
         ensures other { self.new ≡ record self.old {
           file = self.new.file;
           errors = self.new.errors;
@@ -267,13 +267,13 @@ impl<'r, R: ReplacesFiles, E: Write> StatusFile<'r, R, E> {
     {
         let figures = self.figures();
         let written = write_file(self.runtime, self.alloc, &self.file, &figures);
-        let _ = self.file.note("status", written, &mut self.errors);
+        let _ = self.file.note(moment, "status", written, &mut self.errors);
     }
 
     // Writes the counts at the end, and returns the writer.
     pub(crate) fn finish(mut self) -> E {
         self.meter.note_mute();
-        self.write();
+        self.write(None);
         let StatusFile {
             runtime: _,
             alloc: _,

@@ -118,7 +118,7 @@ const AT_HOME: &str = "names-home/book";
 
 const LOG_AT_HOME: &str = "names-home/book-wal";
 
-static LINKS: [Row; 7] = [
+static LINKS: [Row; 11] = [
     (Done::Nothing, 20, false, ""),
     // The log is beside the file, not beside the link.
     (Done::Moved(LOG_AT_HOME, "names-home/moved"), 21, true, ""),
@@ -126,9 +126,14 @@ static LINKS: [Row; 7] = [
     // A link to itself: where it leads cannot be told, and it stays as it was.
     (Done::Linked(LINKED, LINKED), 23, false, ""),
     (Done::Linked(AT_HOME, LINKED), 24, false, ""),
+    // It stays as it was, too, if the book is away.
+    (Done::Moved(AT_HOME, "names-home/moved"), 25, true, ""),
+    (Done::Linked(LINKED, LINKED), 26, true, ""),
+    (Done::Moved("names-home/moved", AT_HOME), 27, true, ""),
+    (Done::Linked(AT_HOME, LINKED), 28, false, ""),
     // A file is in the place of the folder: the names lead nowhere.
-    (Done::Replaced("names-home", "names-away"), 25, true, ""),
-    (Done::Restored("names-home", "names-away"), 26, false, ""),
+    (Done::Replaced("names-home", "names-away"), 29, true, ""),
+    (Done::Restored("names-home", "names-away"), 30, false, ""),
 ];
 
 // Makes the folder, the book and its log, and the link.

@@ -1,5 +1,7 @@
 //! The file of the configuration, and what `--explain` adds if a server refuses it while it runs.
-ghost use Rattle.std.specs.Prelude.{◌≡◌, None};
+ghost use Rattle.std.specs.Prelude.{◌≡◌, ◌∷◌, [], None, IsSome};
+ghost use Rattle.acct_service.specs.Told.{Grows};
+ghost use Rattle.acct_program_commands.specs.Looks.{LooksOnce};
 
 use acct_model::{Octets, Text};
 use acct_program::InputFault;
@@ -36,7 +38,11 @@ impl<'a, R: ReadsFiles> ExplainedSite<'a, R> {
 impl<'a, R: ReadsFiles> SiteSource for ExplainedSite<'a, R> {
     ghost sights = { λ _. None };
 
-    fn look(&mut self, alloc: Global, moment: u64) -> Option<Result<Octets, InputFault>> {
+    fn look(&mut self, alloc: Global, moment: u64) -> Option<Result<Octets, InputFault>>
+        ensures told { Grows None (result ∷ []) None }
+        ensures kept { self.new ≡ record self.old { file = self.new.file } }
+        ensures looked { LooksOnce moment self.old.file self.new.file (IsSome result) }
+    {
         self.file.look(alloc, moment)
     }
 

@@ -1,10 +1,11 @@
 //! A server over sockets: binds them, and then runs a watched server over them.
 ghost use Rattle.std.specs.Prelude.{◌≡◌, ◌≤◌, ◌<◌, ◌^◌, IfOk, IfErr, IfSome};
-ghost use Rattle.std.specs.Prelude.{None, IsSomeAnd, MatchOption};
+ghost use Rattle.std.specs.Prelude.{ℕ, None, IsSomeAnd, MatchOption};
 ghost use Rattle.std.specs.List.{AllZip};
 ghost use Rattle.std.specs.Net.Grammar.{IsDotted};
 ghost use Rattle.acct_book.specs.Step.{OnlyLooks};
 ghost use Rattle.acct_program_args.specs.Orders.{seconds_of};
+ghost use Rattle.acct_program_commands.specs.Rounds.{KeepsAt};
 ghost use Rattle.acct_program_serving.specs.Files.{IsCounted, IsKept};
 ghost use Rattle.acct_program_serving.specs.Serving.{IsBoundTo, RunsServer, IsUnbound};
 ghost use Rattle.acct_program_serving.specs.Serving.{ended_of};
@@ -18,7 +19,7 @@ use acct_program::Status;
 use acct_program_args::{Listening, Serving, Telling, seconds_in};
 use acct_program_commands::{
     BookNames, Fault, FileRounds, Gauges, KeptBalances, ReplacesFiles, Shared, SiteSource,
-    StateSource, StatusFile, StoreFault, Watch,
+    StateSource, StatusFile, StoreFault, Watch, keep_at,
 };
 use acct_service::{Exchange, Rules, Until, moment_of};
 use acct_site::Config;
@@ -179,12 +180,11 @@ fn write_first<'r, R: ReplacesFiles + Clock, B: Book, E: Write>(
     gauges: &Gauges,
     errors: &mut E,
 )
-    ensures { OnlyLooks B.Book book.old book.new }
+    ensures looks { OnlyLooks B.Book book.old book.new }
+    ensures keeps { (moment : ℕ) × KeepsAt moment balances.old balances.new }
 {
-    if let Some(balances) = balances {
-        let moment = moment_of(runtime);
-        balances.keep(alloc, &config.plans, book, moment, gauges, errors);
-    }
+    let moment = moment_of(runtime);
+    keep_at(alloc, balances, config, book, moment, gauges, errors);
 }
 
 // The watch that logs to a writer what is dropped and how much is received, if there is a writer.

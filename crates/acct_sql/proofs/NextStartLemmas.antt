@@ -1,13 +1,13 @@
 -- Why the next start takes what a crash left of a book.
-use Rattle.std.proofs.Common.{◌≡◌, ⊎_elim, List, refl, sym, ap, ◌∙◌, subst, arith}
+use Rattle.std.proofs.Common.{◌≡◌, ⊎_elim, List, refl, sym, subst, arith}
 use Rattle.sqlite.specs.Tree.{Trees}
 use Rattle.sqlite.specs.Effect.{Database}
 use Rattle.sqlite.specs.State.{State, HasCleanDisk}
 use Rattle.sqlite_rules.specs.Lists.{Has}
 use Rattle.acct_model.specs.declared.plan.Plan.{Plan}
-use Rattle.acct_sql_tables.specs.Tables.{book_schema, own_number, meta, price_plan, plan_count}
-use Rattle.acct_sql_tables.specs.Make.{KeepsPlans, HasNumber}
-use Rattle.acct_sql_tables.specs.Look.{HasNumberAlone, IsRefusedAs}
+use Rattle.acct_sql_tables.specs.Tables.{book_schema, own_number, meta}
+use Rattle.acct_sql_tables.specs.Make.{HasNumber}
+use Rattle.acct_sql_tables.specs.Look.{IsRefusedAs}
 use Rattle.acct_sql_tables.specs.Book.{IsOpenBook, LeavesPlans, HasSamePlans}
 use Rattle.acct_sql_tables.specs.declared.sql_book_error.SqlBookError.{SqlBookError}
 use Rattle.acct_sql_tables.specs.declared.sql_book_error.SqlBookError.TheVariants.{NotABook}

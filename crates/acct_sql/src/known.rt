@@ -1,7 +1,8 @@
 //! What an open book knows of its tables, so that it need not query them again.
-ghost use Rattle.std.specs.Prelude.{◌≡◌, Some, None, IfOk, IfSome, IsTrue};
+ghost use Rattle.std.specs.Prelude.{◌≡◌, ◌<◌, Some, None, IfOk, IfSome, IsTrue};
 ghost use Rattle.std.specs.Prelude.{MatchBool};
 ghost use Rattle.std.specs.Option.{option_copied};
+ghost use Rattle.acct_book.specs.Content.{key_of};
 ghost use Rattle.acct_book.specs.declared.key.Key.{Key as KeyFacts};
 ghost use Rattle.acct_sql.specs.inner.Known.{entries_of, balance_among, known_balance, Learns};
 ghost use Rattle.acct_sql.specs.inner.Known.{session_among, session_name, known_session};
@@ -125,7 +126,9 @@ impl Known {
     /// Whether it is known that the session of a row has none. Always false once a call failed:
     /// tables that somebody else wrote may have a plan without its session, and an INSERT would
     /// fail again and again.
-    pub(crate) fn is_absent(&self, alloc: Global, row: &Row) -> bool {
+    pub(crate) fn is_absent(&self, alloc: Global, row: &Row) -> bool
+        ensures { IsTrue result → known_session self.now (key_of row.now) ≡ Some None }
+    {
         if self.has_failed {
             return false;
         }
@@ -191,8 +194,9 @@ fn with_balance(
     account: &[u8],
     balance: i64,
 ) -> Result<Balances, AllocError>
-    ensures { IfOk result (λ after. Learns account.now balance (balance_among balances)
+    ensures learns { IfOk result (λ after. Learns account.now balance (balance_among balances)
         (balance_among (Some after))) }
+    ensures most { balances ≡ None → IfOk result (λ after. after.cap ≡ 16384) }
 {
     let mut after = made(alloc, balances, MOST_ACCOUNTS)?;
     let name = account.to_vec(alloc)?;
@@ -209,8 +213,10 @@ fn with_session(
     session: &[u8],
     row: Option<&Row>,
 ) -> Result<Sessions, AllocError>
-    ensures { IfOk result (λ after. Learns (record { client = client.now; session = session.now })
+    ensures learns { IfOk result (λ after.
+        Learns (record { client = client.now; session = session.now })
         (option_copied row.entry) (session_among sessions) (session_among (Some after))) }
+    ensures most { sessions ≡ None → IfOk result (λ after. after.cap ≡ 16384) }
 {
     let mut after = made(alloc, sessions, MOST_SESSIONS)?;
     let name = named(alloc, client, session)?;
@@ -242,7 +248,9 @@ fn made<K: Eq + Hash, V>(
     cache: Option<LruCache<K, V>>,
     most: usize,
 ) -> Result<LruCache<K, V>, AllocError>
-    ensures { IfOk result (λ made. made.entries ≡ entries_of cache) }
+    requires { 0 < most }
+    ensures entries { IfOk result (λ made. made.entries ≡ entries_of cache) }
+    ensures most { cache ≡ None → IfOk result (λ made. made.cap ≡ most) }
 {
     match cache {
         Some(cache) => Ok(cache),

@@ -2,7 +2,7 @@
 ghost use Rattle.std.specs.Prelude.{◌≡◌, ◌∷◌, ◌⊎◌, ◌++◌, []};
 ghost use Rattle.std.specs.Prelude.{not, bytes_eq, filter};
 ghost use Rattle.std.specs.List.{list_any};
-ghost use Rattle.acct_sql.specs.inner.Remembered.{AreEndedAfter};
+ghost use Rattle.acct_sql.specs.inner.Remembered.{AreEndedAfter, still_ended};
 
 use acct_book::{Row, SessionState};
 use acct_model::Text;
@@ -50,7 +50,9 @@ impl Memory {
 
     /// Forgets the client of a row that is to be set, if the row is live.
     pub(crate) fn forget_ended(&mut self, row: &Row)
-        ensures { AreEndedAfter row.now self.old.ended.items self.new.ended.items }
+        ensures sound { AreEndedAfter row.now self.old.ended.items self.new.ended.items }
+        ensures others { self.new.ended.items
+            ≡ still_ended row.now.state row.now.client self.old.ended.items }
     {
         if row.state == SessionState::Live {
             self.forget_client(row.client.as_str());

@@ -1,4 +1,4 @@
-use Rattle.std.proofs.Common.{subst, ◌⊎◌, inl, inr}
+use Rattle.std.proofs.Common.{subst, inl, inr}
 use Rattle.std.specs.Prelude.{IsTrue}
 use Rattle.acct_book.proofs.Looking.{looks_none, looks_then}
 use Rattle.acct_program_commands.specs.Forwarding.{IsHeardIn}

@@ -1,4 +1,4 @@
-use Rattle.std.proofs.Common.{subst, ◌⊎◌, inl, inr}
+use Rattle.std.proofs.Common.{subst, inl, inr}
 use Rattle.acct_book.proofs.Looking.{looks_once, looks_then}
 use Rattle.acct_program_commands.specs.Forwarding.{IsHeardIn}
 use Rattle.acct_program_commands.proofs.Forwarded.{heard_more}
@@ -23,7 +23,7 @@ loop-key-preserved g c =
       answers = c.in_ok-row.ensures.reads.answers;
       heard = λ still is.
           let then = reads.was_open still in
-          elim (c.in_ok-note.ensures is) [
+          elim (c.in_ok-note.ensures.heard is) [
             | inl was ↦ before.heard then was
             | inr now ↦ inr (subst (λ content. IsHeardIn c.args.task.now.selection.now content
                 c.args.task.now.clock.moment)

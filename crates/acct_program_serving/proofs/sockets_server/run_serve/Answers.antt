@@ -17,9 +17,9 @@ returns-clause-serves g c =
             (λ slices went. subst
             (λ seen. PollsAfter seen slices (g.S.SiteSource.sights c.serve-sockets.new.rounds.source))
             (ap (λ s. g.S.SiteSource.sights s) c.new-rounds.ensures.source)
-            (polls _ (λ r. g.S.SiteSource.sights r.source) (λ _ _ _ _ goes. goes)
+            (polls _ (λ r. g.S.SiteSource.sights r.source) (λ _ _ _ _ goes. goes.0)
             c.new-rounds.result slices c.serve-sockets.new.rounds went)) _ _ _
-            c.write_first.ensures _ _
+            c.write_first.ensures.looks _ _
             (subst (λ loop. IsBoundTo c.args.serving.now.listening loop.datagrams.sockets.items
             loop.desk.door.address loop.desk.door.port) (sym same.sockets) bound.bound)
             (same.counts.0 ∙ bound.fresh.0) (same.counts.1 ∙ bound.fresh.1) _ _ _ served,

@@ -8,4 +8,4 @@ pub returns-clause-balances : goal.returns-clause-balances
 returns-clause-balances c = kept_or_none bytes_eq bytes_eq-Decides (λ key. key.items)
     c.args.account.now c.args.balance c.args.self.now.balances c.take.result c.ok.result
     c.with_balance.result c.take.ensures.value c.ok.ensures.value
-    (rw (to_z-of_z w64 c.args.balance c.ranges.balance) at c.with_balance.ensures)
+    (rw (to_z-of_z w64 c.args.balance c.ranges.balance) at c.with_balance.ensures.learns)

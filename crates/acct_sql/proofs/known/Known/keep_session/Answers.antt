@@ -9,4 +9,4 @@ pub returns-clause-sessions : goal.returns-clause-sessions
 returns-clause-sessions c = kept_or_none same_key Decides-same_key session_name
     (record { client = c.args.client.now; session = c.args.session.now })
     (option_copied c.args.row) c.args.self.now.sessions c.take.result c.ok.result
-    c.with_session.result c.take.ensures.value c.ok.ensures.value c.with_session.ensures
+    c.with_session.result c.take.ensures.value c.ok.ensures.value c.with_session.ensures.learns

@@ -10,7 +10,7 @@ pub invariant_of-self : goal.invariant_of-self
 invariant_of-self g c = (
   c.write_forward.ensures.resting,
   remembers_forward c.self.invariant.1 c.args.gone.now c.args.row.now c.write_forward.ensures
-      c.forget_ended.ensures,
+      c.forget_ended.ensures.sound,
   knows_no_more c.in_err-kept_or_forget.ensures,
 )
 
@@ -26,7 +26,7 @@ pub invariant_of-self-2 : goal.invariant_of-self-2
 invariant_of-self-2 g c = (
   c.write_forward.ensures.resting,
   remembers_forward c.self.invariant.1 c.args.gone.now c.args.row.now c.write_forward.ensures
-      c.forget_ended.ensures,
+      c.forget_ended.ensures.sound,
   knows_no_row c.in_ok-kept_or_forget.ensures c.self.invariant.2 c.args.gone.now c.args.row.now
       c.write_forward.ensures c.forget_sessions.ensures.balances
       c.forget_sessions.ensures.sessions,

@@ -19,7 +19,7 @@ pub invariant_of-self : goal.invariant_of-self
 invariant_of-self g c =
     let w = rw (to_z-of_z w64 c.args.balance c.ranges.balance) at c.write_session.ensures in (
       w.resting,
-      remembers_set c.self.invariant.1 c.args.row.now c.args.balance w c.forget_ended.ensures,
+      remembers_set c.self.invariant.1 c.args.row.now c.args.balance w c.forget_ended.ensures.sound,
       knows_no_more c.in_err-kept_or_forget.ensures,
     )
 
@@ -37,7 +37,7 @@ pub invariant_of-self-2 : goal.invariant_of-self-2
 invariant_of-self-2 g c =
     let w = rw (to_z-of_z w64 c.args.balance c.ranges.balance) at c.write_session.ensures in (
       w.resting,
-      remembers_set c.self.invariant.1 c.args.row.now c.args.balance w c.forget_ended.ensures,
+      remembers_set c.self.invariant.1 c.args.row.now c.args.balance w c.forget_ended.ensures.sound,
       knows_set c.in_ok-kept_or_forget.ensures c.self.invariant.2 c.keep_session.new.self
           c.args.row.now c.args.balance w
           (subst (λ (r : RowFacts). Learns (key_of r) (Some c.args.row.now)
