@@ -10,7 +10,7 @@ from claims_lib.tree import text_of
 
 # The most words of a page by hand, and of all pages together.
 MOST = {
-    "CHANGELOG.md": 1040,
+    "CHANGELOG.md": 1048,
     "README.md": 675,
     "docs/ACCESS-SERVERS.md": 1305,
     "docs/ARCHITECTURE.md": 840,
