@@ -9,6 +9,7 @@ use crate::gauges::Gauges;
 use acct_model::Text;
 use acct_reads::ReadsFiles;
 use std::alloc::{AllocError, Global};
+use std::fs::Metadata;
 use std::io::{ErrorKind, Write};
 use std::os::unix::fs::MetadataExt;
 
@@ -142,11 +143,21 @@ struct Name {
     first: Option<FileNumber>,
 }
 
-// What distinguishes a file from each other one of a system.
+/// What distinguishes a file from each other one of a system.
 #[derive(Clone, Copy, PartialEq, Eq)]
-struct FileNumber {
+pub(crate) struct FileNumber {
     device: u64,
     number: u64,
+}
+
+impl FileNumber {
+    /// That of the file whose metadata these are.
+    pub(crate) fn of(found: &Metadata) -> FileNumber {
+        FileNumber {
+            device: found.dev(),
+            number: found.ino(),
+        }
+    }
 }
 
 impl Name {
@@ -164,10 +175,7 @@ impl Name {
         ensures unseen { self.new.first ≡ None → (result ≡ Some false) ⊎ (result ≡ None) }
     {
         let found = match runtime.metadata(self.path.as_str()) {
-            Ok(found) => FileNumber {
-                device: found.dev(),
-                number: found.ino(),
-            },
+            Ok(found) => FileNumber::of(&found),
             Err(error) => {
                 return match error.kind() {
                     ErrorKind::NotFound | ErrorKind::NotADirectory => Some(self.first.is_some()),

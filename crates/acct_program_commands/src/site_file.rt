@@ -3,6 +3,7 @@ ghost use Rattle.std.specs.Prelude.{◌≡◌, ◌∷◌, [], None, IsSome, IsTr
 ghost use Rattle.acct_service.specs.Told.{Grows};
 ghost use Rattle.acct_program_commands.specs.Looks.{LooksOnce};
 
+use crate::book_names::FileNumber;
 use crate::config_file::read_file;
 use crate::site_source::SiteSource;
 use acct_model::{Octets, Text};
@@ -12,8 +13,8 @@ use std::alloc::Global;
 use std::os::unix::fs::MetadataExt;
 use std::time::SystemTime;
 
-/// The file of a configuration. It counts as changed if its modification time, its length, its owner
-/// or its rights differ. It is polled at most once in a second.
+/// The file of a configuration. It counts as changed if it is another file, or if its modification
+/// time, its length, its owner or its rights differ. It is polled at most once in a second.
 #[derive(Drop)]
 pub struct SiteFile<'a, R> {
     runtime: &'a R,
@@ -25,6 +26,7 @@ pub struct SiteFile<'a, R> {
 // What the metadata of a file show.
 #[derive(Clone, Copy, PartialEq, Eq)]
 struct Seen {
+    file: FileNumber,
     changed: Option<SystemTime>,
     length: u64,
     rights: Rights,
@@ -90,6 +92,7 @@ impl<'a, R: ReadsFiles> SiteSource for SiteFile<'a, R> {
 fn see<R: ReadsFiles>(runtime: &R, name: &Text) -> Option<Seen> {
     match runtime.metadata(name.as_str()) {
         Ok(metadata) => Some(Seen {
+            file: FileNumber::of(&metadata),
             changed: metadata.modified().ok(),
             length: metadata.len(),
             rights: Rights {
