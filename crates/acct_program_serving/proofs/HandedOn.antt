@@ -1,6 +1,6 @@
 -- A run over an exchange is one over any other that counts and records the same.
-use Rattle.std.specs.Prelude.{◌≡◌, ◌-◌, ℕ, List, [], ◌∷◌, Option}
-use Rattle.std.proofs.Common.{◌∙◌, sym, ap}
+use Rattle.std.specs.Prelude.{◌≡◌, ◌-◌, ℕ, List, [], ◌∷◌, Option, Some, None}
+use Rattle.std.proofs.Common.{◌∙◌, subst, sym, ap}
 use Rattle.acct_book.specs.declared.book.Book as book
 use Rattle.acct_book.specs.Step.{OnlyLooks}
 use Rattle.acct_site.specs.declared.config.Config.{Config}
@@ -12,6 +12,12 @@ use Rattle.acct_service.specs.declared.server.Served.{Served}
 use Rattle.acct_service.specs.declared.slices.Until.{Until}
 use Rattle.acct_program_commands.specs.NewSite.{LooksAndTakes}
 use Rattle.acct_program_commands.specs.Sights.{Sight}
+use Rattle.acct_program_args.specs.declared.job.BalancesFile.{BalancesFile}
+use Rattle.acct_program_commands.specs.Fresh.{IsDue}
+use Rattle.acct_program_commands.specs.Rounds.{KeepsAt}
+use Rattle.acct_program_commands.specs.Unwritten.{IsBegun}
+use Rattle.acct_program_commands.specs.declared.balances_file.KeptBalances.{KeptBalances}
+use Rattle.acct_program_serving.specs.Files.{IsKept, HasKept}
 use Rattle.acct_program_serving.specs.declared.ended.Ended.{Ended}
 use Rattle.acct_program_serving.specs.declared.ended.Ended.TheVariants as how
 use Rattle.acct_program_serving.specs.Runs.{Ran}
@@ -137,3 +143,17 @@ module _ {B X : Type 0} (b : book.Ghosts B) (x : exchange.Ghosts X) (IsBound : X
     polled = polled;
     ends = ends_however before after ended ends;
   }
+
+-- a file of balances that was first due at a moment, and was written then
+pub kept_first : {R : Type 0} (named : Option BalancesFile) (old new : Option (KeptBalances R))
+    (moment : ℕ) → IsKept named old → KeepsAt moment old new → HasKept named new
+kept_first None None None moment same keeps = tt
+kept_first None None (Some new) moment same keeps = absurd (cc)
+kept_first None (Some old) new moment same keeps = elim same [ ]
+kept_first (Some file) None new moment same keeps = elim same [ ]
+kept_first (Some file) (Some old) None moment same keeps = elim keeps [ ]
+kept_first (Some file) (Some old) (Some new) moment same (due, idle) = (
+  moment,
+  subst (λ was. IsBegun (Some moment) was new.file) same
+      (due (subst (λ was. IsDue was.pause was.begun_at moment) (sym same) tt)),
+)

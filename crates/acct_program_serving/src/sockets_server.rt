@@ -1,12 +1,13 @@
 //! A server over sockets: binds them, and then runs a watched server over them.
 ghost use Rattle.std.specs.Prelude.{◌≡◌, ◌≤◌, ◌<◌, ◌^◌, IfOk, IfErr, IfSome};
-ghost use Rattle.std.specs.Prelude.{ℕ, None, IsSomeAnd, MatchOption};
+ghost use Rattle.std.specs.Prelude.{ℕ, None, Option, IsSomeAnd, MatchOption};
 ghost use Rattle.std.specs.List.{AllZip};
 ghost use Rattle.std.specs.Net.Grammar.{IsDotted};
 ghost use Rattle.acct_book.specs.Step.{OnlyLooks};
 ghost use Rattle.acct_program_args.specs.Orders.{seconds_of};
 ghost use Rattle.acct_program_commands.specs.Rounds.{KeepsAt};
-ghost use Rattle.acct_program_serving.specs.Files.{IsCounted, IsKept};
+ghost use Rattle.acct_program_args.specs.declared.job.BalancesFile.{BalancesFile};
+ghost use Rattle.acct_program_serving.specs.Files.{BeginsWith, IsCounted, IsKept};
 ghost use Rattle.acct_program_serving.specs.Serving.{IsBoundTo, RunsServer, IsUnbound};
 ghost use Rattle.acct_program_serving.specs.Serving.{ended_of};
 
@@ -101,23 +102,13 @@ pub fn run_serve<
     let (gauges, telling) = (Gauges::new(), &serving.telling);
     let noted = Shared::new(&notices);
     let files = files_to_write(runtime, alloc, telling, &gauges, database, noted)?;
-    let WrittenFiles {
-        mut balances,
-        counts,
-    } = files;
+    let WrittenFiles { balances, counts } = files;
     let names = BookNames::new(runtime, alloc, database)?;
     let sockets = bound(runtime, alloc, &serving.listening)?.silenced_by(gauges.away());
-    let mut noted = Shared::new(&notices);
-    write_first(
-        runtime,
-        alloc,
-        &mut balances,
-        config,
-        book,
-        &gauges,
-        &mut noted,
+    let noted = Shared::new(&notices);
+    let begun = first_rounds(
+        runtime, alloc, source, balances, names, config, book, &gauges, noted,
     );
-    let mut rounds = FileRounds::new(runtime, source, balances, Some(names), &gauges, noted);
     let watcher = Watcher {
         clock: runtime,
         drops: watch_on(drops),
@@ -125,8 +116,8 @@ pub fn run_serve<
     };
     let oldest = seconds_in(serving.oldest_report);
     let rules = Rules { config, oldest };
-    let (turns, rounds) = (serving.turns, &mut rounds);
-    let (_sockets, ended) = watcher.serve(alloc, &rules, book, sockets, rounds, turns, output);
+    let (turns, mut rounds) = (serving.turns, begun);
+    let (_sockets, ended) = watcher.serve(alloc, &rules, book, sockets, &mut rounds, turns, output);
     status_of(ended)
 }
 
@@ -168,6 +159,36 @@ fn files_to_write<'s, R: Clock + ReplacesFiles, E: Write + Drop>(
     let state = StateSource::new(runtime, alloc, gauges, database)?;
     let counts = status_file(runtime, alloc, telling, state, errors)?;
     Ok(WrittenFiles { balances, counts })
+}
+
+// What a server does between its slices: it polls this source, looks at the names of its book, and
+// keeps its file of balances, which is written here for the first time.
+fn first_rounds<'r, R: ReplacesFiles + Clock, S: SiteSource + Drop, B: Book, E: Write + Drop>(
+    runtime: &'r R,
+    alloc: Global,
+    source: S,
+    mut balances: Option<KeptBalances<'r, R>>,
+    names: BookNames<'r, R>,
+    config: &Config,
+    book: &mut B,
+    gauges: &'r Gauges,
+    mut errors: E,
+) -> FileRounds<'r, R, S, E>
+    ensures looks { OnlyLooks B.Book book.old book.new }
+    ensures source { result.source ≡ source }
+    ensures begins { (named : Option BalancesFile) → IsKept named balances.entry
+        → BeginsWith named names.entry.book.path source result }
+{
+    write_first(
+        runtime,
+        alloc,
+        &mut balances,
+        config,
+        book,
+        gauges,
+        &mut errors,
+    );
+    FileRounds::new(runtime, source, balances, Some(names), gauges, errors)
 }
 
 // Writes the file of balances for the first time, if there is one.

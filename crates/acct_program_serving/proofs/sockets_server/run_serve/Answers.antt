@@ -16,10 +16,10 @@ returns-clause-serves g c =
         ends_afresh _ _ _ _ (g.S.SiteSource.sights c.serve-sockets.new.rounds.source) _ _ _ _
             (λ slices went. subst
             (λ seen. PollsAfter seen slices (g.S.SiteSource.sights c.serve-sockets.new.rounds.source))
-            (ap (λ s. g.S.SiteSource.sights s) c.new-rounds.ensures.source)
+            (ap (λ s. g.S.SiteSource.sights s) c.first_rounds-begun.ensures.source)
             (polls _ (λ r. g.S.SiteSource.sights r.source) (λ _ _ _ _ goes. goes.0)
-            c.new-rounds.result slices c.serve-sockets.new.rounds went)) _ _ _
-            c.write_first.ensures.looks _ _
+            c.first_rounds-begun.result slices c.serve-sockets.new.rounds went)) _ _ _
+            c.first_rounds-begun.ensures.looks _ _
             (subst (λ loop. IsBoundTo c.args.serving.now.listening loop.datagrams.sockets.items
             loop.desk.door.address loop.desk.door.port) (sym same.sockets) bound.bound)
             (same.counts.0 ∙ bound.fresh.0) (same.counts.1 ∙ bound.fresh.1) _ _ _ served,
