@@ -1,5 +1,7 @@
-"""Memory as FreeRADIUS may get it: what is behind a text was another one, and ends with a backslash.
-So what reads on behind a text loses it each time, not once in some thousand reports. It needs gcc."""
+"""Memory as FreeRADIUS may get it: behind each text are octets of an older one, of which the last is
+a backslash. So what reads on behind a text loses it each time, not once in some thousand reports. It
+needs gcc.
+"""
 
 import os
 import shutil
