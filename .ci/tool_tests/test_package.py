@@ -15,6 +15,7 @@ SHUT_IN = """NoNewPrivileges SystemCallArchitectures SystemCallErrorNumber Memor
     ProtectHome PrivateTmp PrivateDevices DevicePolicy PrivateUsers ProtectProc ProcSubset RemoveIPC
     ProtectClock ProtectControlGroups ProtectHostname ProtectKernelLogs ProtectKernelModules
     ProtectKernelTunables UMask SystemCallFilter CapabilityBoundingSet""".split()
+ADD_UP = ("SystemCallFilter", "CapabilityBoundingSet")
 # Root's: it works in folders of other users, as these, and looks at their processes.
 ROOTS = {"PrivateUsers", "ProcSubset", "RemoveIPC", "CapabilityBoundingSet", "SystemCallFilter"}
 EXCEPTIONS = {
@@ -63,10 +64,14 @@ class Version(unittest.TestCase):
 
 class Units(unittest.TestCase):
     def settings(self, path):
-        found = {}
-        whole = text(path).replace("@shut-in@\n", text("etc", "shut-in")).replace("\\\n", " ")
-        for name, value in re.findall(r"(?m)^(\w+)=(.*)$", whole):
-            found.setdefault(name, []).append(" ".join(value.split()))
+        """What a unit says of each name: all lines that add to each other, else the last one."""
+        found, whole = {}, text(path)
+        for name in ("shut-in", "no-rights"):
+            whole = whole.replace(f"\n@{name}@\n", f"\n{text('etc', name)}")
+        self.assertNotRegex(whole, "(?m)^@")
+        for name, value in re.findall(r"(?m)^(\w+)=(.*)$", whole.replace("\\\n", " ")):
+            had = found.get(name, []) if name in ADD_UP else []
+            found[name] = [*had, " ".join(value.split())]
         return found
 
     def test_each_is_shut_in_as_the_server_is(self):
