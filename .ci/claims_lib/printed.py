@@ -135,15 +135,16 @@ FAULTS = {
 def fault_texts():
     """Each line of a fault, as a comparison prints it."""
     tree = ast.parse(text_of(COMPARE))
-    labels = next(ast.literal_eval(it.value) for it in tree.body
-                  if isinstance(it, ast.Assign) and ast.unparse(it.targets[0]) == "NAMES")
+    parts = next(it.value for it in tree.body
+                 if isinstance(it, ast.Assign) and ast.unparse(it.targets[0]) == "PARTS")
+    labels = {key.value: part.elts[0].value for key, part in zip(parts.keys, parts.values)}
     for label in labels.values():
         yield f"here: {label}: ..."
     for it in ast.walk(tree):
         if isinstance(it, ast.Call) and ast.unparse(it.func) == "self.faults.append":
-            aged = re.search(r"NAMES\[part\]", ast.unparse(it.args[0]))
+            aged = re.search(r"PARTS\[part\]\[0\]", ast.unparse(it.args[0]))
             for part in ("to_own", "to_other", "book") if aged else ("",):
-                yield text_in(it.args[0], VALUES | {"NAMES[part]": labels.get(part, "")})
+                yield text_in(it.args[0], VALUES | {"PARTS[part][0]": labels.get(part, "")})
 
 
 def compared(checker):
