@@ -145,6 +145,13 @@ class Site(Folder):
             self.assertEqual(freeradius.value(freeradius.without_comments(found), "secret"), value)
         self.assertEqual(freeradius.value(more, "other"), "10.9.0.6")
 
+    def test_what_else_is_on_a_line_stays(self):
+        """Else logins of switches would be sold, and two secrets would be given, of one name."""
+        old = ('radacctd {\n\t# all but a, secret = b\n\tport = 11813, secret = "x" # ours\n'
+               '\tclass = "default", left_out = "switches"\n}\n')
+        text = front.settings(old, self.wanted(), "y" * 16)
+        self.assertEqual(text, old.replace('"x"', "y" * 16))
+
     def test_a_plan_whose_class_is_no_ascii_is_in_the_book(self):
         self.write("class,block,unit,count\ndefault,1,1,both\ndebit,1,1,both\n"
                    "gr%C3%B6%C3%9Fe,1,1,both\n".encode())

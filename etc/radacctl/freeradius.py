@@ -77,12 +77,11 @@ def value(block, name):
 
 def with_value(text, name, value):
     """A block in which a name has this value. One of an earlier version lacks some names."""
-    line = f"\t{name} = {value}\n"
-    found = re.search(rf"(?m)^[ \t]*{name}[ \t]*=.*\n", text)
+    found = re.search(rf"(?m)^(?:[^#\n]*,)?[ \t]*{name}[ \t]*=[ \t]*({QUOTED}|[^\s,]+)", text)
     if found:
-        return text[: found.start()] + line + text[found.end() :]
+        return text[: found.start(1)] + value + text[found.end(1) :]
     end = text.rstrip().rfind("}")
-    return text[:end] + line + text[end:]
+    return f"{text[:end]}\t{name} = {value}\n{text[end:]}"
 
 
 def file_at(name):
