@@ -83,6 +83,19 @@ class Night(unittest.TestCase):
             self.assertEqual((status, len(names)), (wanted, 1 - wanted), said)
             self.assertEqual("is not mounted" in said, bool(wanted), said)
 
+    def test_a_disk_whose_name_has_a_space_or_is_a_link(self):
+        """findmnt prints a space as \\x20."""
+        os.makedirs(self.place("bin"))
+        os.rename(self.place("backups"), self.place("a disk"))
+        for name, to in (("backups", "a disk"), ("usb", "a disk")):
+            os.symlink(to, self.place(name))
+        for place in (r"a\x20disk", "usb"):
+            text = f"#!/bin/sh\nprintf '%s\\n' '{self.place(place)}'\n"
+            self.write("bin/findmnt", text)
+            with mock.patch.dict(os.environ, PATH=f"{self.place('bin')}:{os.environ['PATH']}"):
+                status, said, names = self.night()
+            self.assertEqual((status, names, "is not mounted" in said), (1, [], True), said)
+
     def test_a_copy_of_the_day_that_was_removed(self):
         name = self.night()[2][0]
         shutil.rmtree(self.place(f"backups/{name}"))
