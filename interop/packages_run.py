@@ -33,7 +33,7 @@ def moved(folder):
         money.settings_in: (path("settings.json"),),
         packages.read: (path("packages.toml"), path("settings.json")),
         packages.wifi: (path("packages.toml"),),
-        logins.Log.__init__: log, logins.ended_in: log, logins.log_ended: log, logins.mend: log,
+        logins.ended_in: log, logins.log_ended: log, logins.mend: log,
         lapses.end: log, lapses.balances: (lapses.MIRROR,), lapses.known_to: (lapses.MIRROR,),
         lapses.note_sales: (lapses.MIRROR,), lapses.Lapse.__init__: (*log, lapses.MIRROR),
     }

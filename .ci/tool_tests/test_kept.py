@@ -7,12 +7,13 @@ import pwd
 import shutil
 import subprocess
 import sys
+import tarfile
 import tempfile
 import threading
 import unittest
 from unittest import mock
 
-from radacctl import files, logins, packages, site, stock
+from radacctl import archive, files, logins, packages, site, stock
 from radacctl.commands import packages as command
 from radacctl.doctor import packages as doctor
 from tool_tests.test_packages import Here, MEMORY, MONEY, PACKAGE, Site
@@ -75,9 +76,26 @@ class Devices(unittest.TestCase):
         self.assertEqual(found.name, "packages-lost")
         self.assertIn("restore nothing: systemctl start radacctd-packages", found.cure)
         for folder, shown in (("/b", "/b/site.tar.gz"), ("/my b", "'/my b/site.tar.gz'")):
-            with mock.patch.object(doctor.copies, "last_good", lambda it=folder: it):
+            with mock.patch.object(doctor.copies, "last_good", lambda *_, it=folder: it):
                 cure = doctor.refused("logins", self.path, why).cure
             self.assertIn(f"tar -xpzf {shown} -C / ", cure)
+
+    def test_the_copy_of_the_cure_has_the_logins(self):
+        """Nights since they were damaged or removed have copies, too."""
+        contents = [b"SQLite format 3\0..", b"", None, b"SQLite format 3\0.."]
+        endings = ["", "", "", ".damaged"]
+        with tempfile.TemporaryDirectory(dir=MEMORY) as folder:
+            for day, (octets, ending) in enumerate(zip(contents, endings), 1):
+                copy = f"{folder}/2026-01-0{day}"
+                os.makedirs(f"{copy}/book")
+                made = archive.Archive(f"{copy}/site.tar.gz")
+                if octets is not None:
+                    made.add(tarfile.TarInfo(logins.FILE[1:] + ending), octets)
+                made.end({})
+            os.makedirs(f"{folder}/2026-01-05/book")
+            with mock.patch.object(doctor.copies, "place",
+                                   lambda book: (folder, os.listdir(folder))):
+                self.assertIn(f"{folder}/2026-01-01/site.tar.gz", doctor.put_back())
 
     @unittest.skipUnless(os.geteuid() == 0, "only root has a unit's rights to give away")
     def test_it_is_made_anew_with_the_rights_of_the_unit(self):

@@ -202,6 +202,29 @@ class Databases(Folder):
             other.join()
         self.assertEqual(sorted(os.listdir(self.out)), ["lock", "made"])
 
+    def test_one_that_is_damaged_stops_no_copy(self):
+        """By its own name it would be put back in the place of a good one."""
+        self.database("DELETE").close()
+        path = os.path.join(self.folder, "logins.db")
+        with open(path, "rb") as file:
+            octets = file.read()
+        for begin in (100, 4096):
+            with open(path, "wb") as file:
+                file.write(octets[:begin] + b"\xee" * 500 + octets[begin + 500 :])
+            made = archive.Archive(os.path.join(self.out, "made"))
+            made.add_place(self.folder)
+            made.end({})
+            found = archive.test_archive(f"{self.out}/made")["digests"]
+            self.assertEqual(list(found), [f"{path}.damaged"[1:]])
+            os.remove(f"{self.out}/made")
+
+    def test_a_fault_that_passes_stops_the_copy(self):
+        full = sqlite3.OperationalError("database or disk is full")
+        full.sqlite_errorname = "SQLITE_FULL"
+        with mock.patch.object(archive.sqlite3, "connect", side_effect=full):
+            self.assertRaises(sqlite3.OperationalError, archive.whole_database, "logins.db",
+                              {"logins.db": (b"SQLite format 3\0", None)})
+
     def test_a_file_of_another_program(self):
         with open(os.path.join(self.folder, "logins.db"), "wb") as file:
             file.write(b"no SQLite")

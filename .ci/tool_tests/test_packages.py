@@ -220,7 +220,7 @@ class Refused(unittest.TestCase):
             os.makedirs(f"{folder}/root/var/lib/radacctd-logins")
             os.mkdir(f"{folder}/moved")
             with open(f"{folder}/copies/2026-11-26/var/lib/radacctd-logins/logins.db", "w") as file:
-                file.write("of the copy")
+                file.write("SQLite format 3 of the copy")
             copy = f"{folder}/copies/2026-11-26"
             subprocess.run(["tar", "-czf", f"{copy}/site.tar.gz", "-C", copy, "var"], check=True)
             # Where the site has its copies, and none that is of a day to come.
@@ -238,7 +238,7 @@ class Refused(unittest.TestCase):
                 text = text.replace(old, new)
             subprocess.run(["sh", "-ec", text], check=True)
             with open(f"{folder}/root{logins.FOLDER}/logins.db", encoding="ascii") as file:
-                self.assertEqual(file.read(), "of the copy")
+                self.assertEqual(file.read(), "SQLite format 3 of the copy")
 
 
 class Withdraw(unittest.TestCase):

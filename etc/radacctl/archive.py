@@ -75,7 +75,7 @@ def marks_of(folder, name):
 
 
 def quiet_database(folder, name):
-    """A database with what its log has, and its status, of a moment in which nobody wrote either."""
+    """What whole_database has of a moment in which nobody wrote it or its log, and its status."""
     for _ in range(TRIES):
         before = marks_of(folder, name)
         # A write in the same tick of the clock as the look is read by then. No clock is compared.
@@ -83,29 +83,37 @@ def quiet_database(folder, name):
         with contextlib.suppress(FileNotFoundError):
             read = {it: content_of(folder, it) for it in before}
             if marks_of(folder, name) == before:
-                return whole_database(name, read), read[name][1]
+                return *whole_database(name, read), read[name][1]
     raise Wrong(f"{name} was written all the while: try again")
 
 
 def whole_database(name, read):
     """The octets of a database once SQLite has put what its log or journal has into it, as after a
-    power cut. Those of another program's are as they are.
+    power cut, and an ending of its name. One that is damaged gets such an ending, so that it is put
+    in no place of a good one; it and those of another program's are as they are.
     """
     if not read[name][0].startswith(b"SQLite format 3\0"):
-        return read[name][0]
+        return read[name][0], ""
     with tempfile.TemporaryDirectory() as folder:
         for part, (octets, _) in read.items():
             with open(os.path.join(folder, part), "wb") as file:
                 file.write(octets)
         path = os.path.join(folder, name)
-        with contextlib.closing(sqlite3.connect(path)) as database:
-            if database.execute("PRAGMA integrity_check").fetchall() != [("ok",)]:
-                raise Wrong(f"{name} is damaged")
-            database.execute("PRAGMA wal_checkpoint(TRUNCATE)")
+        try:
+            with contextlib.closing(sqlite3.connect(path)) as database:
+                said = database.execute("PRAGMA integrity_check").fetchall()
+                database.execute("PRAGMA wal_checkpoint(TRUNCATE)")
+        except (sqlite3.Error, UnicodeError) as why:
+            said = getattr(why, "sqlite_errorname", "")
+            # A full disk, say, passes.
+            if said.startswith(("SQLITE_FULL", "SQLITE_IOERR", "SQLITE_CANTOPEN", "SQLITE_NOMEM")):
+                raise
+        if said != [("ok",)]:
+            return read[name][0], ".damaged"
         if os.listdir(folder) != [name]:
             raise Wrong(f"what the log of {name} has cannot be put into it")
         with open(path, "rb") as file:
-            return file.read()
+            return file.read(), ""
 
 
 class Archive:
@@ -163,8 +171,8 @@ class Archive:
         if name.endswith((".db-wal", ".db-shm", ".db-journal")):
             return
         if name.endswith(".db"):
-            octets, status = quiet_database(folder, name)
-            self.add(member(path, status), octets)
+            octets, ending, status = quiet_database(folder, name)
+            self.add(member(path + ending, status), octets)
             return
         with regular(folder, name) as (file, status):
             it = member(path, status)

@@ -272,13 +272,6 @@ def package_row(store, package):
     return number
 
 
-class Log(stock.Log):
-    """Which logins ended: root's, on the disk before the database says so."""
-
-    def __init__(self, path=LOG):
-        super().__init__(path, LOG_HEADER)
-
-
 def ended_in(path=LOG):
     """The last state of each login that ended, by its account."""
     found = {}
@@ -292,11 +285,8 @@ def ended_in(path=LOG):
 
 def log_ended(accounts, state, now, path=LOG):
     """Adds accounts to the log of what ended; they are on the disk then, or it is a fault."""
-    log = Log(path)
-    try:
+    with contextlib.closing(stock.Log(path, LOG_HEADER)) as log:
         log.add(stock.lines_of([now, names.shown(it), state] for it in accounts))
-    finally:
-        log.close()
 
 
 def mend(store, path=LOG):

@@ -224,6 +224,8 @@ def save(words):
     tested = archive.test_archive(part)
     if tested["digests"] != made.digests:
         raise archive.Wrong(f"{part} is not what was written: its disk fails")
+    for it in (it for it in sorted(made.names) if it.endswith(".db.damaged")):
+        say(f"a database is damaged: this copy has it as /{it}, and an older one may have it whole")
     os.rename(part, words.file)
     with opened(os.path.dirname(os.path.realpath(words.file))) as folder:
         os.fsync(folder)

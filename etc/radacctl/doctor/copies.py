@@ -27,12 +27,12 @@ def is_to_come(name):
     return name[:10] > time.strftime("%F", time.localtime(time.time() + 86400))
 
 
-def last_good(book=None):
-    """The path of the newest copy that was not refused and has a book, or None."""
+def last_good(book=None, is_good=lambda path: True):
+    """The path of the newest copy that was not refused, has a book and is good, or None."""
     folder, names = place(book)
-    found = [it for it in names if NAME.fullmatch(it) and not is_to_come(it)
-             and os.path.exists(f"{folder}/{it}/book")]
-    return f"{folder}/{max(found)}" if found else None
+    found = (f"{folder}/{it}" for it in sorted(names, reverse=True)
+             if NAME.fullmatch(it) and not is_to_come(it))
+    return next((it for it in found if os.path.exists(f"{it}/book") and is_good(it)), None)
 
 
 def look_at(kind):

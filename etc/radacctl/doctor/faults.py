@@ -60,7 +60,7 @@ CRITICALS = {
     "packages-steps": ("FreeRADIUS lacks a step of packages",
                        "`radacctl setup`, or [the step](PACKAGES.md#switch-it-on)"),
     "packages-lost": ("the logins of packages are gone or damaged: logins are refused",
-                      "put their folder back from the last copy, as the line says"),
+                      "put their folder back from a copy, as the line says"),
     "packages-shut": ("the logins of packages cannot be read: locked, no right, or a full disk",
                       "restore nothing: space and owner, then restart freeradius"),
     "packages-key": ("the key of printed codes is another one: no code logs in",

@@ -1,10 +1,12 @@
 """Packages: FreeRADIUS' lines, the databases of logins, the key of codes, what was not finished."""
 
+import contextlib
 import re
 import shlex
+import tarfile
 import time
 
-from radacctl import files, freeradius, logins, names, packages, plans, site
+from radacctl import archive, files, freeradius, logins, names, packages, plans, site
 from radacctl.doctor import copies, front
 from radacctl.doctor.faults import Fault
 from radacctl.setup import packages as wanted
@@ -92,8 +94,13 @@ def free_codes(store):
                         f"{shlex.quote(sheet)}; radacctl guest new sells such a package")
 
 
-def put_back():
-    copy = shlex.quote(f"{copies.last_good() or site.BACKUPS + '/DATE'}/site.tar.gz")
+def put_back(path=logins.FILE):
+    """How logins are put back from the newest copy that has them: one of a night since may not."""
+    def is_good(copy):
+        with contextlib.suppress(*archive.FAULTS), tarfile.open(f"{copy}/site.tar.gz") as tar:
+            return tar.extractfile(path[1:]).read(15) == b"SQLite format 3"
+
+    copy = shlex.quote(f"{copies.last_good(None, is_good) or site.BACKUPS + '/DATE'}/site.tar.gz")
     return (f"systemctl stop freeradius; mv {logins.FOLDER} /root/; tar -xpzf {copy} "
             f"-C / {logins.FOLDER.lstrip('/')}; systemctl start freeradius")
 
@@ -104,7 +111,7 @@ def refused(name, path, why):
     one.
     """
     if path and logins.is_lost(path, why):
-        cure = put_back() if name == "logins" else MADE_ANEW
+        cure = put_back(path) if name == "logins" else MADE_ANEW
         return Fault("packages-lost", f"logins are refused: {why}", cure)
     return Fault("packages-shut", f"logins are refused: {why}",
                  f"restore nothing. df -h {logins.FOLDER}; ls -la {logins.FOLDER}; then systemctl "
