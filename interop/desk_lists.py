@@ -314,6 +314,7 @@ def makes_none(browser, desk):
     """What is refused is said, counts nowhere, and is not sent again."""
     for answer, said in ((BUSY, "this hour has had"),
                          ((409, {"error": "keys full"}), "no more guests"),
+                         ((409, {"error": "no key"}), "No login was made"),
                          ((404, {"error": "no such package"}), "No login was made")):
         desk.answers["guest"] = [answer]
         asks_guest(browser, "<b>Bert</b>")

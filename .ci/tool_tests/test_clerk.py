@@ -200,8 +200,9 @@ class Guests(Desk):
             self.assertEqual((len(self.rows()), len(self.site.money)), (1, 1))
 
     def test_a_desk_that_refuses_leaves_nothing(self):
+        """And the page asks no more: else it would have made and taken back a guest for an hour."""
         self.site.write("cashier.key", "other-key-00000001")
-        self.assertEqual(self.guest(), (503, {"error": "away"}))
+        self.assertEqual(self.guest(), (409, {"error": "no key"}))
         self.assertEqual((self.rows(), self.keys()), ([], 0))
         self.site.write("cashier.key", "cash-key-00000001")
         self.assertEqual(self.guest()[0], 200)
@@ -325,7 +326,7 @@ class Guests(Desk):
 
     def test_what_was_not_made_for_an_hour_is_not_made(self):
         self.site.write("cashier.key", "other-key-00000001")
-        self.assertEqual(self.guest(), (503, {"error": "away"}))
+        self.assertEqual(self.guest(), (409, {"error": "no key"}))
         self.site.write("cashier.key", "cash-key-00000001")
         self.assertEqual(self.guest(now=NOW + 3601), (409, {"error": "too old"}))
         self.assertEqual((self.rows(), self.site.money), ([], {}))

@@ -12,6 +12,7 @@ to the socket of `clerk-work`, whose answer it gives.
     409 {"error": "too old"}                nobody was made by this number, and nobody will be
     409 {"error": "no cut" or "not ended"}  this access server cannot be told, or did not do it
     409 {"error": "keys full"}              no more guests fit into the configuration
+    409 {"error": "no key"}                 nobody was made: the desk takes another cashier's key
     422 {"error": "bad request"}            a member is missing, or of another form
     429 {"error": "too many"}               the hour has as many as it may have
     503 {"error": "away" or "setup"}        nobody knows: the same again is right

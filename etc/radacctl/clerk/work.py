@@ -56,7 +56,8 @@ def answer_to(who, asked, now, later):
             return Act(who, asked, now, notes, found[limit], later).do()
     except (desks.WrongKey, guest.NotMade, logins.Fault, stock.Fault, site.Missing, OSError) as why:
         program.say(why)
-        raise Refused(503, "away") from None
+        found = (409, "no key") if isinstance(why, guest.NoKey) else (503, "away")
+        raise Refused(*found) from None
 
 
 def listed(asked, now):

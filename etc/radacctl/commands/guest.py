@@ -60,6 +60,10 @@ class NotMade(Exception):
     """Why there is no guest."""
 
 
+class NoKey(NotMade):
+    """The desk takes another key: the same again is as wrong."""
+
+
 @contextlib.contextmanager
 def locked(patience=60):
     """One at a time makes, ends or mends guests."""
@@ -219,7 +223,8 @@ def complete(logins_store, account, guest, words, is_lost=False):
         return True
     if not is_lost or result in (desks.DIFFERS, desks.LIMIT):
         take_back(logins_store, account, guest, words)
-        raise NotMade(f"the desk did not take the sale: {result}")
+        why = NoKey if result == desks.NO_KEY else NotMade
+        raise why(f"the desk did not take the sale: {result}")
     say(f"{account}: no answer of the desk. Nobody logs in by it until it has answered: it is "
         "asked again each minute, or by radacctl guest mend")
     return False
