@@ -9,6 +9,9 @@ import unittest
 
 from tool_tests import ROOT
 
+from radacctl.doctor import machine
+from radacctl.setup import pair
+
 # What shuts a service in. radacctd.service has all of it, and each other one as much but for these.
 SHUT_IN = """NoNewPrivileges SystemCallArchitectures SystemCallErrorNumber MemoryDenyWriteExecute
     LockPersonality RestrictNamespaces RestrictRealtime RestrictSUIDSGID KeyringMode ProtectSystem
@@ -108,6 +111,16 @@ class Installation(unittest.TestCase):
             done = run()
         self.assertEqual(done.returncode, 1)
         self.assertRegex(done.stderr, "Then install this package again.*\n.*radacctl setup")
+
+    def test_a_pairs_tools_are_where_its_units_run_them(self):
+        """With each prefix: bin/install writes it into no part of radacctl."""
+        runs = set()
+        for path in glob.glob(os.path.join(ROOT, "etc", "pair", "*.service")):
+            runs |= {it for it in re.findall(r"(?m)^ExecStart=(\S+)", text(path))
+                     if it.endswith(pair.TOOLS)}
+        self.assertEqual(runs, {f"/usr/local/sbin/{it}" for it in pair.TOOLS})
+        self.assertEqual(len(set(machine.SCRIPTS) & runs), 1)
+        self.assertIn('put_folder etc/radacctl "$libexec/radacctl"', text("bin", "install"))
 
 
 class Removal(unittest.TestCase):

@@ -28,7 +28,6 @@ import contextlib
 import fcntl
 import glob
 import grp
-import json
 import os
 import pwd
 import re
@@ -40,6 +39,7 @@ from radacctl import archive, files, freeradius, logins, plans, program, restori
 from radacctl.doctor import look
 from radacctl.files import opened_folder as opened, regular
 from radacctl.program import say
+from radacctl.setup.alone import block
 
 # What is copied, if it is there. A name that ends with * stands for all that begin so.
 PLACES = [
@@ -69,7 +69,6 @@ PLACES = [
 EMPTY = site.RADACCT
 # The tools of a pair are put there by hand.
 BY_HAND = ["/usr/local/sbin/radacctd-outbox", "/usr/local/sbin/radacctd-compare"]
-INSTALLED = "/usr/local/share/radacctd/installed"
 # One at a time dumps FreeRADIUS' database and writes an archive.
 LOCK = "/run/radacctd-site.lock"
 # FreeRADIUS and nginx name files outside of their folders.
@@ -88,10 +87,9 @@ OTHERS += ["fcgiwrap.service", "fcgiwrap.socket"]
 def places():
     """Each place that is there, outermost first and none twice."""
     found = []
-    listed = read_text(INSTALLED).splitlines()
-    wanted = [*PLACES, *(it for it in BY_HAND if it not in listed)]
-    wanted += [*named_files(), *also()]
-    for pattern in wanted:
+    listed = files.text(site.shared("installed")).splitlines()
+    by_hand = [it for it in BY_HAND if it not in listed]
+    for pattern in [*PLACES, *by_hand, *named_files(), *also()]:
         for path in sorted(glob.glob(glob.escape(pattern.removesuffix("*")) + "*")
                            if pattern.endswith("*") else [pattern]):
             path = real_place(path)
@@ -106,10 +104,10 @@ def also():
         path = os.path.normpath(path)
         if not path.startswith("/"):
             raise archive.Wrong(f"RADACCTD_ALSO: {path} is no path from the root")
-        others = [*PLACES, EMPTY, "/usr/local/sbin/radacctd", "/root/", "/home/"]
+        others = [*PLACES, EMPTY, f"{site.SBIN}/radacctd", "/root/", "/home/"]
         if path.count("/") < 2 or any(it.startswith(f"{path}/") for it in others):
-            why = "has more in it than a site's: name what you need"
-            raise archive.Wrong(f"RADACCTD_ALSO: {path} {why}")
+            raise archive.Wrong(f"RADACCTD_ALSO: {path} has more in it than a site's: name what "
+                                "you need")
         yield path
 
 
@@ -117,14 +115,6 @@ def real_place(path):
     """A path without links above it, or None if nothing is there."""
     path = os.path.join(os.path.realpath(os.path.dirname(path)), os.path.basename(path))
     return path if os.path.lexists(path) else None
-
-
-def read_text(path):
-    try:
-        with open(path, encoding="utf-8", errors="replace") as file:
-            return file.read()
-    except OSError:
-        return ""
 
 
 def named_in(path):
@@ -145,8 +135,8 @@ def named_files():
     """The certificates and keys that FreeRADIUS and nginx name, and what a link leads to."""
     found = set().union(*map(named_in, NAMING)) - {NOT_NAMED}
     has_letsencrypt = any(it.startswith("/etc/letsencrypt/") for it in found)
-    files = [it for it in {*found, *map(os.path.realpath, found)} if os.path.isfile(it)]
-    return [*sorted(files), *(["/etc/letsencrypt"] if has_letsencrypt else [])]
+    there = [it for it in {*found, *map(os.path.realpath, found)} if os.path.isfile(it)]
+    return [*sorted(there), *(["/etc/letsencrypt"] if has_letsencrypt else [])]
 
 
 def packages():
@@ -197,13 +187,6 @@ def dump_sql():
             say(f"FreeRADIUS' database is not in this copy as it is now: {why}")
 
 
-def members_of(name):
-    try:
-        return grp.getgrnam(name).gr_mem
-    except KeyError:
-        return []
-
-
 def save(words):
     """Writes the archive under another name, tests it, and gives it its own."""
     # Another run is waited for.
@@ -218,9 +201,9 @@ def save(words):
         with contextlib.suppress(FileNotFoundError):
             made.add_place(path)
     summary = {"format": archive.FORMAT, "taken": int(time.time()), "places": found}
-    summary |= {"packages": packages(), "units": enabled(), "members": members_of(site.READERS)}
-    summary["empty"] = made.add_empty(EMPTY)
-    made.end(summary)
+    readers = [it.gr_mem for it in grp.getgrall() if it.gr_name == site.READERS]
+    summary |= {"packages": packages(), "units": enabled(), "members": sum(readers, [])}
+    made.end({**summary, "empty": made.add_empty(EMPTY)})
     tested = archive.test_archive(part)
     if tested["digests"] != made.digests:
         raise archive.Wrong(f"{part} is not what was written: its disk fails")
@@ -249,28 +232,25 @@ def restore(words):
     for name in summary["members"]:
         with contextlib.suppress(KeyError):
             pwd.getpwnam(name)
-            run(["gpasswd", "-a", name, site.READERS])
-    off = [it for it in OTHERS if it not in summary["units"]]
-    for name in off:
-        if glob.glob(f"/etc/systemd/system/*.wants/{name}"):
-            run(["systemctl", "disable", "--now", name])
+            run("gpasswd", "-a", name, site.READERS)
+    for name in OTHERS:
+        if name not in summary["units"] and glob.glob(f"/etc/systemd/system/*.wants/{name}"):
+            run("systemctl", "disable", "--now", name)
     os.sync()
     print(f"put back: {len(summary['digests'])} files of {len(summary['places'])} places")
 
 
-def run(words):
-    done = subprocess.run(words, capture_output=True, text=True)
-    if done.returncode:
-        say(f"{' '.join(words)}: {done.stderr.strip()}")
+def run(*words):
+    status, said = look.run(*words)
+    if status:
+        say(f"{' '.join(words)}: {said.strip()}")
 
 
 def show_plans(words):
     book = plans.of_book(words.book)
     if words.config is None:
-        for name, (block, unit, count) in book.items():
-            text = json.dumps(name.decode("utf-8"), ensure_ascii=False)
-            print(f"[[plan]]\nclass = {text}\nblock = {block}\nunit = {unit}")
-            print(f'count = "{count}"\n')
+        for name, plan in book.items():
+            print(block("plan", dict(zip(plans.HEADER, (name.decode("utf-8"), *plan)))))
         return
     with open(words.config, "rb") as file:
         config = plans.in_config(tomllib.load(file))
