@@ -156,7 +156,8 @@ class Again(Folder):
             self.patched(alone.plans, "in_force", lambda it=in_force: it)
             config = mock.Mock(keys={"cashier": "c" * 32})
             config.clients = {"books": {"secret": "b" * 32}}
-            made = [it for it in alone.of(wanted(), config) if isinstance(it, alone.Plans)]
+            made = [it for it in alone.of(wanted(), config) if getattr(it, "what", "").startswith(
+                "put the new plans into the book")]
             self.assertEqual(bool(made), found)
             self.assertEqual([it.is_done() for it in made], [False] * found)
 

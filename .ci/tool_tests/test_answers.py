@@ -92,7 +92,7 @@ class Typed(unittest.TestCase):
         config = mock.Mock(keys={}, pair_secret="e" * 32)
         config.clients = {it: {"secret": it * 4} for it in ("freeradius", "books")}
         with mock.patch.object(freeradius, "text", lambda *_: ""):
-            found = answers.Answers(tomllib.loads(pair.Text(wanted, config)(None)))
+            found = answers.Answers(tomllib.loads(pair.text(wanted, config)))
         self.assertEqual((found.server, found.pair["own"]), ("", "10.9.0.6"))
 
 

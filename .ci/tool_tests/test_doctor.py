@@ -307,7 +307,7 @@ post-auth {
             config = alone.Config(wanted)
         text = front.clients(None, wanted, config.clients["books"])
         with unittest.mock.patch("radacctl.freeradius.text", lambda *names: text):
-            made = pair.Text(wanted, config)(None)
+            made = pair.text(wanted, config)
         other = answers.Answers(tomllib.loads(made))
         self.assertEqual(other.pair, {"own": "10.9.0.6", "other": "10.9.0.5", "second": True})
         self.assertEqual((other.name, other.has_codes), ('The "Inn"', False))

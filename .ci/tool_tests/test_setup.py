@@ -384,7 +384,7 @@ class Existing(Folder):
         self.put("radacctd/access-servers.conf", front.clients(None, wanted))
         clients = {it: {"secret": f"{it}-{it}-{it}"} for it in ("freeradius", "books")}
         config = mock.Mock(clients=clients, keys={"cashier": "c" * 32}, pair_secret="e" * 32)
-        text = pair.Text(wanted, config)(None)
+        text = pair.text(wanted, config)
         found = answers.Answers(tomllib.loads(text))
         self.assertEqual((found.sql, found.left_out), (wanted.sql, ["switches"]))
         self.assertEqual((found.pair["own"], found.pair["second"]), ("10.9.0.6", True))
@@ -689,12 +689,13 @@ class Certificates(Folder):
         return sorted(it for it in os.listdir(self.folder) if "~before-" in it)
 
     def test_it_is_made_once_and_of_this_host_and_what_was_there_is_kept(self):
-        one = web.Certificate("a.example.org")
+        one = steps.Step("", lambda: web.has_certificate("a.example.org"),
+                         lambda: web.make_certificate("a.example.org"))
         self.assertFalse(one.is_done())
         one.do()
         self.assertTrue(one.is_done())
         self.assertEqual([stat.S_IMODE(os.stat(it).st_mode) for it in self.places], [0o600, 0o644])
-        self.assertFalse(web.Certificate("b.example.org").is_done())
+        self.assertFalse(web.has_certificate("b.example.org"))
         self.assertEqual(self.kept(), [])
         # Half of a bought one.
         self.write(b"a bought certificate\n", 0o644, self.places[1])
@@ -795,7 +796,7 @@ class Others(Folder):
                     mock.patch.object(subprocess, "run") as run, \
                     mock.patch.object(site, "say"), contextlib.redirect_stdout(io.StringIO()):
                 site.dump_sql()
-                sql.Ended().do()
+                sql.end_sessions()
             self.assertEqual(run.call_count, 0)
         text = 'server = "db"\nlogin = "radius"\npassword = "a:b\\c"\nradius_db = "radius"\n'
         with freeradius.postgres(text) as (begin, options):

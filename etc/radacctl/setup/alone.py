@@ -9,7 +9,7 @@ import tomllib
 from radacctl import configuration, desk, files, freeradius, names, plans, site
 from radacctl.doctor import copies
 from radacctl.setup import steps
-from radacctl.setup.steps import Command, File, Folder, Fresh
+from radacctl.setup.steps import Command, File, Folder, Fresh, Step
 
 FRONT_PORT = "11813"
 NOTES = "/root/radacctd-setup"
@@ -275,32 +275,22 @@ def of(answers, config):
     yield Command(f"make the book {site.BOOK}", has_book, site.program(), "init", *book)
     # Before a restart, which fails as long as a plan waits. A server that never ran says nothing.
     if plans.in_force() is not None or has_book():
-        yield Plans(answers, book)
+        yield Step("put the new plans into the book: radacctd stops for some seconds",
+                   lambda: plans_are_in(answers), lambda: put_in_force(book))
     yield Fresh("restart radacctd", "radacctd.service", [site.DEFAULTS])
     yield unit("radacctd.service")
     for name in ("radacctd-nightly.timer", "radacctd-key.timer"):
         yield unit(name)
 
 
-class Plans:
+def put_in_force(book):
     """Puts new plans into a book, whose server stops for that long."""
-
-    def __init__(self, answers, book):
-        self.answers, self.book = answers, book
-
-    def text(self):
-        return "put the new plans into the book: radacctd stops for some seconds"
-
-    def is_done(self):
-        return plans_are_in(self.answers)
-
-    def do(self):
-        steps.refuse_if_away()
-        steps.given(["systemctl", "stop", "radacctd.service"])
-        try:
-            steps.given([site.program(), "plans", *self.book])
-        finally:
-            steps.given(["systemctl", "start", "radacctd.service"])
+    steps.refuse_if_away()
+    steps.given(["systemctl", "stop", "radacctd.service"])
+    try:
+        steps.given([site.program(), "plans", *book])
+    finally:
+        steps.given(["systemctl", "start", "radacctd.service"])
 
 
 def is_running(name):

@@ -144,18 +144,12 @@ def of(answers, config):
     """A file for each access server. The steps before it made the secrets."""
     yield Folder(FOLDER, 0o700)
     for device in answers.access_servers:
-        yield File(f"{FOLDER}/{device['name']}.txt", Text(device, answers, config), 0o600)
+        text = lambda _, device=device: text_now(device, answers, config)
+        yield File(f"{FOLDER}/{device['name']}.txt", text, 0o600)
 
 
-class Text:
+def text_now(device, answers, config):
     """The text, once the secret is there."""
-
-    def __init__(self, device, answers, config):
-        self.device, self.answers, self.config = device, answers, config
-
-    def __call__(self, _):
-        if self.answers.has_front:
-            secret = front.secret_of(self.device["name"], self.device["address"])
-        else:
-            secret = self.config.clients[self.device["name"]]["secret"]
-        return text_of(self.device, self.answers, secret)
+    if answers.has_front:
+        return text_of(device, answers, front.secret_of(device["name"], device["address"]))
+    return text_of(device, answers, config.clients[device["name"]]["secret"])

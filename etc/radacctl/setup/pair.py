@@ -82,7 +82,7 @@ def after(answers, config):
     yield Command("compare both books once", has_balances, "sh", "-c",
                   "systemctl start radacctd-compare 2>&1 || :")
     if not answers.secrets and not answers.pair["second"]:
-        yield Once(OTHER, Text(answers, config), 0o600)
+        yield Once(OTHER, lambda _: text(answers, config), 0o600)
 
 
 class Once(File):
@@ -107,49 +107,41 @@ def has_balances():
     return files.text("/var/lib/radacctd-pair/balances.csv") != ""
 
 
-class Text:
+def text(answers, config):
     """The answers of the other machine, once all secrets are there."""
+    found = {name: value for name, value in answers.found.items() if value != {}}
+    # Printed codes are redeemed on one machine; and only a person knows where access servers
+    # reach the other one.
+    found |= {"codes": False, "certificate": "", "certificate_key": "", "server": ""}
+    lists = {"plan": found.pop("plan"), "access_server": found.pop("access_server")}
+    tables = {"pair": {"own": answers.pair["other"], "other": answers.pair["own"], "second": True},
+              "sql": found.pop("sql", None), "secrets": secrets(answers, config)}
+    lines = ["# The other machine of the pair: radacctl setup --yes with this file. It has",
+             "# all secrets: once that is done, remove the first machine's, and the table",
+             "# [secrets] of the other one's, which is for upgrades."]
+    if tables["sql"]:
+        path = tables["sql"]["password_file"]
+        lines.append(f"# The password of [sql] is not in it: copy {path}, too.")
+    lines += [f"{name} = {shown(it)}" for name, it in found.items() if name not in tables]
+    for name, rows in lists.items():
+        lines += [line for row in rows for line in ("", f"[[{name}]]", *members(row))]
+    for name, row in tables.items():
+        lines += ["", f"[{name}]", *members(row)] if row else []
+    return "\n".join(lines) + "\n"
 
-    def __init__(self, answers, config):
-        self.answers, self.config = answers, config
 
-    def __call__(self, _):
-        found = {name: value for name, value in self.answers.found.items() if value != {}}
-        # Printed codes are redeemed on one machine; and only a person knows where access servers
-        # reach the other one.
-        found |= {"codes": False, "certificate": "", "certificate_key": "", "server": ""}
-        pair = self.answers.pair
-        sql = found.pop("sql", None)
-        tables = {"pair": {"own": pair["other"], "other": pair["own"], "second": True},
-                  **({"sql": sql} if sql else {}), "secrets": self.secrets()}
-        lists = {"plan": found.pop("plan"), "access_server": found.pop("access_server")}
-        found.pop("pair", None)
-        found.pop("secrets", None)
-        lines = ["# The other machine of the pair: radacctl setup --yes with this file. It has",
-                 "# all secrets: once that is done, remove the first machine's, and the table",
-                 "# [secrets] of the other one's, which is for upgrades."]
-        if sql:
-            lines.append(f"# The password of [sql] is not in it: copy {sql['password_file']}, too.")
-        lines += [f"{name} = {shown(value)}" for name, value in found.items()]
-        for name, rows in lists.items():
-            lines += [line for row in rows for line in ("", f"[[{name}]]", *members(row))]
-        for name, row in tables.items():
-            lines += ["", f"[{name}]", *members(row)]
-        return "\n".join(lines) + "\n"
-
-    def secrets(self):
-        found = {f"client-{name}": freeradius.value(text, "secret")
-                 for name, text in freeradius.access_servers() if name != "books"}
-        found |= {f"client-{it['name']}": freeradius.value(there[2], "secret")
-                  for it in self.answers.access_servers
-                  if (there := freeradius.client_at(it["address"]))}
-        found |= {it: self.config.clients[it]["secret"] for it in ("freeradius", "books")}
-        return found | self.config.keys | {"pair": self.config.pair_secret}
+def secrets(answers, config):
+    found = {f"client-{name}": freeradius.value(block, "secret")
+             for name, block in freeradius.access_servers() if name != "books"}
+    found |= {f"client-{it['name']}": freeradius.value(there[2], "secret")
+              for it in answers.access_servers
+              if (there := freeradius.client_at(it["address"]))}
+    found |= {it: config.clients[it]["secret"] for it in ("freeradius", "books")}
+    return found | config.keys | {"pair": config.pair_secret}
 
 
 def members(row):
-    return [f"{json.dumps(name)} = {shown(value)}" for name, value in row.items()
-            if name != "version"]
+    return [f"{json.dumps(name)} = {shown(value)}" for name, value in row.items()]
 
 
 def shown(value):

@@ -6,7 +6,7 @@ import re
 from radacctl import files, freeradius, site
 from radacctl.setup import steps
 from radacctl.setup.alone import NOTES
-from radacctl.setup.steps import File
+from radacctl.setup.steps import File, Step
 
 PACKAGES = ["freeradius-postgresql", "postgresql-client"]
 OURS = "# Users and groups. `radacctl setup` wrote this file."
@@ -73,29 +73,25 @@ def with_sql(text):
 def after(answers):
     """Once FreeRADIUS no longer writes sessions into the database, those that are open stay so."""
     if not answers.sql["accounting"]:
-        yield Ended()
+        yield Step("end the sessions that the table radacct has as open", are_ended, end_sessions)
 
 
-class Ended:
+def are_ended():
+    dialect = freeradius.value(freeradius.text("mods-enabled", "sql"), "dialect")
+    return dialect != "postgresql" or os.path.exists(ENDED)
+
+
+def end_sessions():
     """Ends the sessions that radacct has as open: else each would count for Simultaneous-Use."""
-
-    def text(self):
-        return "end the sessions that the table radacct has as open"
-
-    def is_done(self):
-        dialect = freeradius.value(freeradius.text("mods-enabled", "sql"), "dialect")
-        return dialect != "postgresql" or os.path.exists(ENDED)
-
-    def do(self):
-        try:
-            with freeradius.postgres(freeradius.text("mods-enabled", "sql")) as found:
-                if found is None:
-                    raise steps.Failed("radius_db of mods-enabled/sql is to be the name of a "
-                                       "database alone, with the password on a line of its own")
-                steps.given([*found[0], "psql", "-wqX", *found[1]], text=END)
-        except steps.Failed as why:
-            # The site works without it.
-            print(f"the table radacct keeps its open sessions: {why}")
-            return
-        files.make(ENDED, b"")
-        files.sync_folder(os.path.dirname(ENDED))
+    try:
+        with freeradius.postgres(freeradius.text("mods-enabled", "sql")) as found:
+            if found is None:
+                raise steps.Failed("radius_db of mods-enabled/sql is to be the name of a "
+                                   "database alone, with the password on a line of its own")
+            steps.given([*found[0], "psql", "-wqX", *found[1]], text=END)
+    except steps.Failed as why:
+        # The site works without it.
+        print(f"the table radacct keeps its open sessions: {why}")
+        return
+    files.make(ENDED, b"")
+    files.sync_folder(os.path.dirname(ENDED))

@@ -47,6 +47,16 @@ def group(name):
         raise Failed(f"there is no group {name}: is its package installed?") from None
 
 
+class Step:
+    """A change: what it is, what tells whether it is done, and what does it."""
+
+    def __init__(self, what, is_done, do):
+        self.what, self.is_done, self.do = what, is_done, do
+
+    def text(self):
+        return self.what
+
+
 class Folder:
     """A folder with its owner and mode."""
 
@@ -213,25 +223,20 @@ class Link:
             os.fsync(folder)
 
 
-class Command:
+class Command(Step):
     """A command, and what tells whether it is still to be given."""
 
     def __init__(self, what, holds, *words):
-        self.what, self.holds, self.words = what, holds, words
+        super().__init__(what, holds, self.give)
+        self.words = words
 
-    def text(self):
-        return self.what
-
-    def is_done(self):
-        return self.holds()
-
-    def do(self):
+    def give(self):
         said = given(self.words)
-        if not self.holds():
+        if not self.is_done():
             raise Failed(f"{' '.join(self.words)}: it did not help: {said[-300:]}")
 
 
-class Trial:
+class Trial(Step):
     """Does the steps to a program's folder in a copy of it, which the program tests: if that finds
     a fault, nothing was changed.
 
@@ -245,12 +250,10 @@ class Trial:
     def __init__(self, who, folder, found, test, user="root"):
         self.who, self.folder, self.test, self.user = who, folder, test, user
         self.steps = [it for it in found if self.has(it)]
+        self.what = f"test {who} with its new files, in a copy of its folder"
 
     def has(self, step):
         return getattr(step, "path", "").startswith(f"{self.folder}/")
-
-    def text(self):
-        return f"test {self.who} with its new files, in a copy of its folder"
 
     def is_done(self):
         return all(it.is_done() for it in self.steps)
@@ -277,7 +280,7 @@ class Trial:
             shutil.rmtree(TRIAL, ignore_errors=True)
 
 
-class Fresh:
+class Fresh(Step):
     """Restarts a unit that has not read its files as they are, once a test of these is well.
 
     The clock, which may be set at any time, is asked only of a start that no set-up has seen.
@@ -285,9 +288,6 @@ class Fresh:
 
     def __init__(self, what, unit, paths, test=()):
         self.what, self.unit, self.paths, self.test = what, unit, paths, test
-
-    def text(self):
-        return self.what
 
     def is_done(self):
         it, found = look.properties(self.unit, "InvocationID"), self.statuses()

@@ -11,7 +11,7 @@ from radacctl.doctor import machine, web as of_web
 from radacctl.setup import clerk, pair, steps
 from radacctl.setup.alone import NOTES, Command, File, Folder, unit, user
 from radacctl.setup.front import is_debians, member
-from radacctl.setup.steps import Fresh, Link, Trial
+from radacctl.setup.steps import Fresh, Link, Step, Trial
 
 PACKAGES = ["nginx", "apache2-utils", "openssl", "fail2ban", "nftables", "python3-systemd"]
 CODES = ["fcgiwrap", "qrencode", "python3-reportlab", "fonts-dejavu-core"]
@@ -60,7 +60,8 @@ def files_of(answers, config):
     key = f'proxy_set_header Desk-Key "{config.keys["cashier"]}";\n'
     yield File(f"{FOLDER}/cashier.conf", key, 0o600)
     for name in answers.cashiers:
-        yield Cashier(name)
+        yield Step(f"make a login for the cashier {name}; its password is in {PASSWORDS}",
+                   lambda name=name: name in logins(), lambda name=name: make_login(name))
     yield File(f"{FOLDER}/cashiers", lambda old: old or "", 0o640, of_group=site.WEB_USER)
     yield Server(CONF, lambda old: server(old or "", answers), 0o644)
 
@@ -80,39 +81,33 @@ def certificate(answers):
     """The certificate that was named, or one that browsers warn of."""
     if answers.certificate:
         return
-    yield Certificate(answers.host)
+    # What was there is kept, be it half of a bought one.
+    yield Step(f"make a certificate of {answers.host}, of which browsers warn",
+               lambda: has_certificate(answers.host), lambda: make_certificate(answers.host))
     yield File(PRIVATE_KEY, lambda old: old or "", 0o600)
 
 
-class Certificate:
-    """One that nobody else has signed. What was there is kept, be it half of a bought one."""
+def has_certificate(host):
+    """One belongs to the other; and it is of this host, or somebody else has signed it."""
+    x509 = ("openssl", "x509", "-in", CERTIFICATE, "-noout")
+    try:
+        one, other = (steps.given(it) for it in (
+            [*x509, "-pubkey"], ["openssl", "pkey", "-in", PRIVATE_KEY, "-pubout"]))
+        said = steps.given([*x509, "-subject", "-issuer", "-checkhost", host])
+    except steps.Failed:
+        return False
+    subject, issuer, *_ = [it.partition("=")[2] for it in said.splitlines()]
+    return one == other and (subject != issuer or "does match" in said)
 
-    def __init__(self, host):
-        self.host = host
 
-    def text(self):
-        return f"make a certificate of {self.host}, of which browsers warn"
-
-    def is_done(self):
-        """One belongs to the other; and it is of this host, or somebody else has signed it."""
-        x509 = ("openssl", "x509", "-in", CERTIFICATE, "-noout")
-        try:
-            one, other = (steps.given(it) for it in (
-                [*x509, "-pubkey"], ["openssl", "pkey", "-in", PRIVATE_KEY, "-pubout"]))
-            said = steps.given([*x509, "-subject", "-issuer", "-checkhost", self.host])
-        except steps.Failed:
-            return False
-        subject, issuer, *_ = [it.partition("=")[2] for it in said.splitlines()]
-        return one == other and (subject != issuer or "does match" in said)
-
-    def do(self):
-        words = ("openssl", "req", "-x509", "-newkey", "rsa:2048", "-nodes", "-days", "3650",
-                 "-subj", f"/CN={self.host}", "-addext", f"subjectAltName=DNS:{self.host}")
-        with tempfile.TemporaryDirectory(dir="/run") as folder:
-            made = [os.path.join(folder, it) for it in ("key", "pem")]
-            steps.given([*words, "-keyout", made[0], "-out", made[1]])
-            for path, own, mode in zip((PRIVATE_KEY, CERTIFICATE), made, (0o600, 0o644)):
-                File(path, files.text(own), mode).do()
+def make_certificate(host):
+    words = ("openssl", "req", "-x509", "-newkey", "rsa:2048", "-nodes", "-days", "3650",
+             "-subj", f"/CN={host}", "-addext", f"subjectAltName=DNS:{host}")
+    with tempfile.TemporaryDirectory(dir="/run") as folder:
+        made = [os.path.join(folder, it) for it in ("key", "pem")]
+        steps.given([*words, "-keyout", made[0], "-out", made[1]])
+        for path, own, mode in zip((PRIVATE_KEY, CERTIFICATE), made, (0o600, 0o644)):
+            File(path, files.text(own), mode).do()
 
 
 class Server(File):
@@ -174,38 +169,30 @@ def has_sold():
         return False
 
 
-class Cashier:
+def logins():
+    """The cashiers who have a login."""
+    lines = files.text(f"{FOLDER}/cashiers").splitlines()
+    return [it.partition(":")[0] for it in lines if ":" in it]
+
+
+def make_login(name):
     """A cashier's login. The password is made once, and only root reads it."""
-
-    def __init__(self, name):
-        self.name = name
-
-    def text(self):
-        return f"make a login for the cashier {self.name}; its password is in {PASSWORDS}"
-
-    def is_done(self):
-        text = files.text(f"{FOLDER}/cashiers")
-        return any(it.startswith(f"{self.name}:") for it in text.splitlines())
-
-    def do(self):
-        found = re.search(rf"(?m)^{re.escape(self.name)} (\S+)$", files.text(PASSWORDS))
-        password = found[1] if found else "-".join(stock.letters(5) for _ in range(4))
-        line = f"{self.name} {password}\n"
-        notes = lambda old: old if line in (old or "") else with_line(old, line)
-        write(File(PASSWORDS, notes, 0o600))
-        made = steps.given(["htpasswd", "-niB", self.name], password).strip() + "\n"
-        write(File(f"{FOLDER}/cashiers", lambda old: with_line(old, made), 0o640,
-                   of_group=site.WEB_USER))
+    found = re.search(rf"(?m)^{re.escape(name)} (\S+)$", files.text(PASSWORDS))
+    password = found[1] if found else "-".join(stock.letters(5) for _ in range(4))
+    line = f"{name} {password}\n"
+    notes = lambda old: old if line in (old or "") else with_line(old, line)
+    write(File(PASSWORDS, notes, 0o600))
+    made = steps.given(["htpasswd", "-niB", name], password).strip() + "\n"
+    write(File(f"{FOLDER}/cashiers", lambda old: with_line(old, made), 0o640,
+               of_group=site.WEB_USER))
 
 
 def others(answers):
     """What to say of cashiers whose login is there, and who are not in the answers."""
-    path = f"{FOLDER}/cashiers"
-    found = [it.partition(":")[0] for it in files.text(path).splitlines() if ":" in it]
-    for name in found if answers.host else []:
+    for name in logins() if answers.host else []:
         if name not in answers.cashiers and not name.startswith("#"):
             yield (f"{name} may still log in at /desk/, and is not in `cashiers`. To end that: "
-                   f"htpasswd -D {path} {shlex.quote(name)}")
+                   f"htpasswd -D {FOLDER}/cashiers {shlex.quote(name)}")
 
 
 def with_line(text, line):
