@@ -499,8 +499,11 @@ class Again(Folder):
                                         ("loaded", "yes", False)):
             said = {"LoadState": f"LoadState={state}\n", "NeedDaemonReload":
                     f"NeedDaemonReload=no\n\nNeedDaemonReload={changed}\n"}
-            self.patched(steps, "given", lambda words, it=said: it[words[3]])
+            asked = []
+            self.patched(steps, "given", lambda words, it=said: asked.append(words) or it[words[3]])
             self.assertEqual(front.is_reloaded(), is_read)
+            # Packages have a file of their own for its unit.
+            self.assertEqual("freeradius.service" in asked[-1], state == "loaded")
 
     @NEEDS_ROOT
     @unittest.skipUnless(shutil.which("ps"), "ps is missing")

@@ -636,6 +636,14 @@ class Existing(Folder):
         step.do()
         [kept] = [it for it in os.listdir(self.folder) if it.startswith("file~before-")]
         self.assertEqual(self.read(os.path.join(self.folder, kept)), b"mine\n")
+        os.remove(os.path.join(self.folder, kept))
+        os.mkdir(self.path)
+        self.write(b"mine, too\n", path=f"{self.path}/own")
+        self.assertEqual(step.text(), f"give {self.path} another name")
+        step.do()
+        self.assertTrue(step.is_done())
+        [kept] = [it for it in os.listdir(self.folder) if it.startswith("file~before-")]
+        self.assertEqual(self.read(os.path.join(self.folder, kept, "own")), b"mine, too\n")
 
     def test_what_waits_is_waited_for(self):
         left = [{"radacctd_queue_reports": [({"queue": "a"}, count)]} for count in (2.0, 1.0, 0.0)]

@@ -155,8 +155,8 @@ def enabled():
 
 def file_of(server):
     """The name in sites-enabled of the file that has a virtual server, or None."""
-    found = [it for it in enabled() if server in SERVER.findall(text("sites-enabled", it))]
-    return next(iter(found), None)
+    return next((it for it in enabled() if server in SERVER.findall(text("sites-enabled", it))),
+                None)
 
 
 def tunnels():
@@ -279,15 +279,10 @@ def access_servers():
 
 
 def settings():
-    """The values of settings.conf that concern radacctd."""
+    """The values of settings.conf that others look at, each "" if the machine has no such file."""
     block = text("radacctd", "settings.conf")
-    return {name: value(block, name) for name in ("address", "port", "from", "secret", "readers",
-                                                  "oldest", "if_old", "queue", "unsent")}
-
-
-def time_classes():
-    """The pattern of Classes whose plan counts seconds, or "" if the machine has no such file."""
-    return value(text("radacctd", "settings.conf"), "time_classes")
+    return {name: value(block, name) for name in ("address", "port", "from", "secret", "oldest",
+                                                  "queue", "time_classes")}
 
 
 @contextlib.contextmanager

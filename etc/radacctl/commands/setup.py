@@ -98,12 +98,10 @@ def parser():
 
 
 def packages_of(wanted):
-    found = list(front.PACKAGES) if wanted.has_front else []
-    found += sql.PACKAGES if wanted.sql else []
-    if wanted.host:
-        found += web.PACKAGES
-    found += web.CODES if wanted.has_codes else []
-    return [*dict.fromkeys([*found, *(clerk.PACKAGES if wanted.has_clerk else [])])]
+    parts = [(wanted.has_front, front.PACKAGES), (wanted.sql, sql.PACKAGES),
+             (wanted.host, web.PACKAGES), (wanted.has_codes, web.CODES),
+             (wanted.has_clerk, clerk.PACKAGES)]
+    return [*dict.fromkeys(it for is_wanted, found in parts if is_wanted for it in found)]
 
 
 def steps_of(wanted, config):
@@ -118,13 +116,16 @@ def steps_of(wanted, config):
     yield from devices.of(wanted, config)
 
 
-def confirm(words):
-    if words.yes:
-        return
+def is_wanted(words, lines):
+    """Shows what is to be done. Whether to do it."""
+    print("This is to be done:")
+    for it in lines:
+        print(f"  - {it}")
+    if words.dry_run or words.yes:
+        return words.yes and not words.dry_run
     if not sys.stdin.isatty() and words.file:
         program.fail("nobody is there to answer: give --yes")
-    if not program.is_yes("Do this?"):
-        program.fail("nothing was done")
+    return program.is_yes("Do this?") or program.fail("nothing was done")
 
 
 def is_done(step):
@@ -142,11 +143,6 @@ def finish(step):
         step.do()
 
 
-def show(found):
-    for it in found:
-        print(f"  - {it.text()}")
-
-
 def do(words, wanted):
     """Installs what is missing, does each step that is not done, and shows that the site works."""
     alone.refuse_if_lost(words.new_book)
@@ -159,11 +155,8 @@ def do(words, wanted):
     if not found and not last:
         print("nothing is to be done")
         return 0
-    print("This is to be done:")
-    show([*found, *last])
-    if words.dry_run:
+    if not is_wanted(words, [it.text() for it in (*found, *last)]):
         return 0
-    confirm(words)
     if any(isinstance(it, proof.Proof) for it in last):
         files.remove(proof.DONE)
     finish(packages)
@@ -183,14 +176,8 @@ def remove(words):
     """Takes FreeRADIUS' part out again."""
     if not away.is_there():
         print("nothing is to be done")
-        return
-    print("This is to be done:")
-    for it in away.listed():
-        print(f"  - {it}")
-    if words.dry_run:
-        return
-    confirm(words)
-    away.remove()
+    elif is_wanted(words, away.listed()):
+        away.remove()
 
 
 def ends(found, wanted, config):

@@ -14,6 +14,20 @@ CLERK = "/etc/systemd/system/sockets.target.wants/radacctd-clerk.socket"
 REDEEM = "/etc/systemd/system/sockets.target.wants/radacctd-redeem.socket"
 
 
+# What a site may have: the words for it, and the units that are to run and start with the machine.
+PARTS = [
+    ("has_front", "behind FreeRADIUS", "freeradius.service radacctd-mirror.service "
+                                       "radacctd-front.service radacctd-clock.timer"),
+    ("has_pages", "with pages", "nginx.service"),
+    ("has_codes", "with printed codes", "radacctd-redeem.socket"),
+    ("has_packages", "with packages", "radacctd-packages.timer"),
+    ("has_clerk", "", "radacctd-clerk.socket radacctd-clerk-work.socket"),
+    ("has_pair", "one of a pair", "radacctd-outbox.service radacctd-state.socket "
+                                  "radacctd-compare.timer"),
+    ("has_shards", "{} of 16 books", "radacctd-shards.service"),
+]
+
+
 def is_there(*paths):
     """Whether one of these is there, be it a link that leads nowhere."""
     return any(map(os.path.lexists, paths))
@@ -70,28 +84,16 @@ class Kind:
         """What names the servers to systemctl status."""
         return "'radacctd@*'" if self.has_shards else "radacctd"
 
+    def parts(self, column):
+        return [row[column] for row in PARTS if getattr(self, row[0])]
+
     def units(self):
         """The units that are to run and to start with the machine."""
+        found = [it.unit for it in self.books] + " ".join(Kind.parts(self, 2)).split()
         # The check is only where the balances of all books are.
-        has_all = self.has_shards and (self.has_front or self.has_pages)
-        parts = [
-            (self.has_front, "freeradius.service radacctd-mirror.service radacctd-front.service "
-                             "radacctd-clock.timer"),
-            (self.has_packages, "radacctd-packages.timer"),
-            (self.has_pages, "nginx.service"),
-            (self.has_codes, "radacctd-redeem.socket"),
-            (self.has_clerk, "radacctd-clerk.socket radacctd-clerk-work.socket"),
-            (self.has_pair, "radacctd-outbox.service radacctd-state.socket radacctd-compare.timer"),
-            (self.has_shards, "radacctd-shards.service"),
-            (has_all, "radacctd-shards-check.timer"),
-            (True, "radacctd-nightly.timer radacctd-key.timer"),
-        ]
-        own = [it.unit for it in self.books]
-        return own + [it for is_there, units in parts if is_there for it in units.split()]
+        if self.has_shards and (self.has_front or self.has_pages):
+            found.append("radacctd-shards-check.timer")
+        return [*found, "radacctd-nightly.timer", "radacctd-key.timer"]
 
     def words(self):
-        parts = [(self.has_front, "behind FreeRADIUS"), (self.has_pages, "with pages")]
-        parts += [(self.has_codes, "with printed codes"), (self.has_packages, "with packages")]
-        parts.append((self.has_pair, "one of a pair"))
-        parts.append((self.has_shards, f"{len(self.books)} of 16 books"))
-        return ", ".join(["a site", *(text for is_so, text in parts if is_so)])
+        return ", ".join(["a site", *filter(None, self.parts(1))]).format(len(self.books))

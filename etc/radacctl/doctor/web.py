@@ -127,7 +127,7 @@ def settings():
         elif not found["url"].startswith("https://"):
             yield Fault("pages-settings", f"{money.SETTINGS}: url does not begin with https://",
                         "write it there")
-        classes = freeradius.time_classes()
+        classes = freeradius.settings()["time_classes"]
         if classes and found["time_classes"] != classes:
             yield Fault("pages-settings", f"{money.SETTINGS} has other time_classes than "
                         "FreeRADIUS", f"write there: {classes}")

@@ -1,5 +1,6 @@
 """The steps to radacctd itself: its configuration, its book, its service, its nights."""
 
+import grp
 import json
 import os
 import re
@@ -244,16 +245,8 @@ def own(folder, name):
 
 def user(name, group=None):
     """Makes a user of radacctd's, whose group is there once it is made."""
-    return Command(f"make the user {name}", lambda: is_known_group(group or name),
-                   "systemd-sysusers", own("sysusers.d", name))
-
-
-def is_known_group(name):
-    try:
-        steps.group(name)
-    except steps.Failed:
-        return False
-    return True
+    is_there = lambda: any(it.gr_name == (group or name) for it in grp.getgrall())
+    return Command(f"make the user {name}", is_there, "systemd-sysusers", own("sysusers.d", name))
 
 
 def of(answers, config):

@@ -25,13 +25,18 @@ CLIENTS = "access-servers.conf"
 
 
 class Gone(File):
-    """A file of radacctd's that is removed. One that a site has changed is kept next to it."""
+    """A file of radacctd's that is removed, or its folder. What a site has written there is kept
+    under another name.
+    """
 
     def __init__(self, path):
         super().__init__(path, "")
 
+    def is_folder(self):
+        return os.path.isdir(self.path) and not os.path.islink(self.path)
+
     def text(self):
-        return f"remove {self.path}"
+        return f"give {self.path} another name" if self.is_folder() else f"remove {self.path}"
 
     def is_done(self):
         return not os.path.lexists(self.path)
@@ -39,23 +44,13 @@ class Gone(File):
     def do(self):
         above, name = os.path.split(self.path)
         with files.opened_folder(above) as folder:
-            if not os.path.islink(self.path):
-                steps.keep(folder, name)
-            os.remove(name, dir_fd=folder)
-            os.fsync(folder)
-
-
-class Away(Gone):
-    """A folder that is kept under another name, with what the site has written there."""
-
-    def text(self):
-        return f"give {self.path} another name"
-
-    def do(self):
-        above, name = os.path.split(self.path)
-        with files.opened_folder(above) as folder:
-            new = f"{name}~before-{time.strftime('%Y%m%d-%H%M%S')}"
-            os.rename(name, new, src_dir_fd=folder, dst_dir_fd=folder)
+            if self.is_folder():
+                new = f"{name}~before-{time.strftime('%Y%m%d-%H%M%S')}"
+                os.rename(name, new, src_dir_fd=folder, dst_dir_fd=folder)
+            else:
+                if not os.path.islink(self.path):
+                    steps.keep(folder, name)
+                os.remove(name, dir_fd=folder)
             os.fsync(folder)
 
 
@@ -73,7 +68,8 @@ def includes_out(text):
     own = include + r"\S*radacctd/"
     text = re.sub(own + r"(?:settings|pair|packages)\.conf[ \t]*\n", "", text)
     is_there = re.search(include + rf"(?!\S*radacctd/)\S*{CLIENTS}[ \t]*$", text)
-    return re.sub(own + r"access-servers\.conf[ \t]*\n", "" if is_there else rf"\g<1>{CLIENTS}\n", text)
+    line = "" if is_there else rf"\g<1>{CLIENTS}\n"
+    return re.sub(own + r"access-servers\.conf[ \t]*\n", line, text)
 
 
 def own_clients_out(text):
@@ -116,7 +112,7 @@ def rest():
         yield front.of_group(raddb(CLIENTS), lambda old: text if old is None else joined(old))
     yield from changed(raddb("radiusd.conf"), includes_out)
     yield from changed(raddb("mods-config/files/authorize"), test_user_out)
-    yield Away(folder)
+    yield Gone(folder)
 
 
 def units():

@@ -173,7 +173,7 @@ def is_reloaded():
     """Whether systemd has read FreeRADIUS' units, and all of radacctd's as they are now."""
     shown = lambda name, *units: steps.given(["systemctl", "show", "-p", name, *units])
     return ("=not-found" not in shown("LoadState", *freeradius.UNITS)
-            and "=yes" not in shown("NeedDaemonReload", "radacctd*"))
+            and "=yes" not in shown("NeedDaemonReload", "radacctd*", "freeradius.service"))
 
 
 def settings(old, answers, book_secret):
@@ -418,13 +418,11 @@ def password():
 
 def running(inside):
     """FreeRADIUS runs with the files as they are, which it has tested."""
-    parts = ("radacctd/balances-mirror", "radacctd/front-counts", "radacctd/kept-sessions")
-    paths = [freeradius.path(it) for it in freeradius.OURS if it not in parts]
-    more = ("pair.conf", "packages.conf")
-    paths += [freeradius.path("radacctd", it) for it in (*freeradius.SETTINGS, *more)]
-    paths += [freeradius.path(it) for it in packages.OURS]
-    paths += [freeradius.path(it) for it in ("sites-enabled/radacctd-pair", "mods-enabled/sql")]
-    paths += [it.path for it in inside if isinstance(it, File)]
+    others = ("radacctd/balances-mirror", "radacctd/front-counts", "radacctd/kept-sessions")
+    names = [it for it in freeradius.OURS if it not in others]
+    names += [f"radacctd/{it}" for it in (*freeradius.SETTINGS, "pair.conf", "packages.conf")]
+    names += [*packages.OURS, "sites-enabled/radacctd-pair", "mods-enabled/sql"]
+    paths = [*map(freeradius.path, names), *(it.path for it in inside if isinstance(it, File))]
     return Fresh("test FreeRADIUS' configuration, and restart it", "freeradius.service", paths,
                  freeradius.test())
 

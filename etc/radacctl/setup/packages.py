@@ -61,18 +61,13 @@ def of(_):
     yield Command("make the databases of logins", are_made, tool, "packages", "make")
     yield Folder(os.path.dirname(DROP_IN))
     yield File(DROP_IN, START.format(tool), 0o644)
-    yield Command("let systemd read FreeRADIUS' unit", is_read, "systemctl", "daemon-reload")
 
 
 def settings(old):
     """packages.conf with a key of its own. A key that is there stays: else no code would log in."""
     text = old or files.sample("packages", logins.CONF)
-    return re.sub(r"(?m)^([ \t]*key[ \t]*=[ \t]*)change-me.*$", lambda it: it[1] + secrets.token_hex(32), text)
-
-
-def is_read():
-    found = steps.given(["systemctl", "show", "freeradius", "-p", "NeedDaemonReload"])
-    return "NeedDaemonReload=no" in found
+    return re.sub(r"(?m)^([ \t]*key[ \t]*=[ \t]*)change-me.*$",
+                  lambda it: it[1] + secrets.token_hex(32), text)
 
 
 def are_made():

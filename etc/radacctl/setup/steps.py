@@ -92,11 +92,13 @@ class Folder:
 
 
 class File:
-    """A file with its content, owner and mode. `change` makes the content of what was there."""
+    """A file with its content, owner and mode. `change` makes the content of what was there, which
+    is kept next to it unless `keeps` says otherwise.
+    """
 
-    def __init__(self, path, change, mode=None, owner="root", of_group="root"):
+    def __init__(self, path, change, mode=None, owner="root", of_group="root", keeps=True):
         self.path, self.change, self.mode = path, change, mode
-        self.owner, self.group = owner, of_group
+        self.owner, self.group, self.keeps = owner, of_group, keeps
 
     def found(self):
         """The content and the status of what is there, or None of both."""
@@ -160,7 +162,7 @@ class File:
         with files.opened_folder(above) as folder:
             old, status = self.found()
             new = self.wanted(old)
-            is_kept = old is not None and old != new
+            is_kept = self.keeps and old is not None and old != new
             self.write(folder, name, new, self.rights(status), is_kept)
 
     def write(self, folder, name, octets, rights, is_kept=False):

@@ -157,7 +157,7 @@ def settings(old, answers):
                            f"{answers.decimals}: each sum of the book would be another one")
     found |= {"name": answers.name, "url": f"https://{answers.host}",
               "currency": answers.currency, "decimals": answers.decimals,
-              "time_classes": freeradius.time_classes(), "clerk": answers.has_clerk}
+              "time_classes": freeradius.settings()["time_classes"], "clerk": answers.has_clerk}
     return json.dumps(found, indent=2, ensure_ascii=False) + "\n"
 
 
@@ -181,10 +181,11 @@ def make_login(name):
     password = found[1] if found else "-".join(stock.letters(5) for _ in range(4))
     line = f"{name} {password}\n"
     notes = lambda old: old if line in (old or "") else with_line(old, line)
-    write(File(PASSWORDS, notes, 0o600))
+    # The older content of setup's own files needs no copy.
+    File(PASSWORDS, notes, 0o600, keeps=False).do()
     made = steps.given(["htpasswd", "-niB", name], password).strip() + "\n"
-    write(File(f"{FOLDER}/cashiers", lambda old: with_line(old, made), 0o640,
-               of_group=site.WEB_USER))
+    File(f"{FOLDER}/cashiers", lambda old: with_line(old, made), 0o640, of_group=site.WEB_USER,
+         keeps=False).do()
 
 
 def others(answers):
@@ -198,14 +199,6 @@ def others(answers):
 def with_line(text, line):
     """A text with a line more. What has no end of its line yet gets one."""
     return (text.rstrip("\n") + "\n" if text else "") + line
-
-
-def write(file):
-    """Writes a file of setup's own: its older content needs no copy."""
-    above, name = os.path.split(file.path)
-    with files.opened_folder(above) as folder:
-        old, status = file.found()
-        file.write(folder, name, file.wanted(old), file.rights(status))
 
 
 def logs():
