@@ -53,9 +53,9 @@ in force. Nothing is answered for about {pause} seconds:
     systemctl start {unit}"""
 
 Rights = collections.namedtuple("Rights", "user group mode")
-# What differs between plans: lines of what is missing, changed and added; whether the order does;
-# and with whose plans they were compared.
-Differing = collections.namedtuple("Differing", "missing changed added order by")
+# What differs between plans: lines of what is missing or changed, and of what is added; whether the
+# order does; and with whose plans they were compared.
+Differing = collections.namedtuple("Differing", "broken added order by")
 
 
 def octets_of(path):
@@ -127,14 +127,14 @@ def plans_of(octets):
 def differing(new, old, before, by):
     """What differs between plans; `before` had the order that is to stay."""
     spell = lambda name: ascii(name.decode("utf-8", "backslashreplace"))[1:-1]
-    missing = [f'the plan "{spell(it)}" ({shown(old[it])}) is left out' for it in old
-               if it not in new]
-    changed = [f'the plan "{spell(it)}" was {shown(old[it])}, and is now {shown(new[it])}'
+    broken = [f'the plan "{spell(it)}" ({shown(old[it])}) is left out' for it in old
+              if it not in new]
+    broken += [f'the plan "{spell(it)}" was {shown(old[it])}, and is now {shown(new[it])}'
                for it in old if it in new and new[it] != old[it]]
     added = [f'the plan "{it.decode("utf-8", "replace")}" ({shown(new[it])}) is new' for it in new
              if it not in old]
     order = [it for it in new if it in before] != [it for it in before if it in new]
-    return Differing(missing, changed, added, order, by)
+    return Differing(broken, added, order, by)
 
 
 def test_rights(config):
@@ -178,20 +178,16 @@ class Edit:
         os.close(handle)
 
     def put(self, path, octets):
-        """Makes a file with a content, or puts one in the place of another, on the disk."""
-        new = path + ".edit-new"
+        """Puts a file into place with the rights of the configuration, on the disk."""
         try:
-            files.remove(new)
-            files.make(new, octets, rights=self.give)
-            os.rename(new, path)
+            files.replace(path, octets, rights=self.give)
         except OSError as why:
-            with contextlib.suppress(OSError):
-                files.remove(new)
             fail(f"cannot write {path}: {why.strerror}; your copy is {self.copy}")
 
     def clean_up(self):
+        # A signal may have ended it before a file had its name.
         for path in (self.copy, self.base, self.config):
-            files.remove(path + ".edit-new")
+            files.remove(path + ".new")
         if not os.path.exists(self.copy):
             files.remove(self.base)
 
@@ -261,9 +257,9 @@ class Edit:
         if found.order:
             say("the plans are in another order: a running server takes that only at its next "
                 "start")
-        if found.missing or found.changed:
+        if found.broken:
             say("a plan that a book keeps stays what it is, since its charges were made by it:")
-            tell(found.missing + found.changed)
+            tell(found.broken)
             if has_book:
                 say(f"(compared with {found.by}) For other terms add a plan of a new class.")
                 return asked("Edit again (e), or keep the copy and quit (q)? ", "eq")

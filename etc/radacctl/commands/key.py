@@ -62,11 +62,6 @@ def card(words, account, token, until):
     return cards.PAGE.format(body=body, **STYLE)
 
 
-def has_key(config, account):
-    accounts = [it["account"] for it in config.get("key", []) if keys.is_guests(it)]
-    return names.octets_of(account) in map(names.octets_of, accounts)
-
-
 def new(words):
     account, now = words.account, datetime.datetime.now()
     why = names.why_not(names.octets_of(account))
@@ -77,10 +72,10 @@ def new(words):
         if keys.is_full(config):
             fail(f"{keys.MOST_KEYS} keys are all that fit: end some, or set up 16 books "
                  "(docs/SHARDS.md)")
-        if has_key(config, account) and not words.again:
-            fail(
-                f"{account} has a key: revoke it, or give --again. Is it a former guest's account?"
-            )
+        has = [names.octets_of(it["account"]) for it in config.get("key", [])
+               if keys.is_guests(it)]
+        if names.octets_of(account) in has and not words.again:
+            fail(f"{account} has a key: revoke it, or give --again. Is it a former guest's account?")
         return keys.block_of(token, account, until), []
 
     if re.fullmatch(r"(room|zimmer)?[ -]?\d{1,4}", account, re.I):

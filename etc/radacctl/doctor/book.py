@@ -17,8 +17,6 @@ from radacctl.shards import table_of
 # Limits of a configuration, and how many are to be free.
 LIMITS, SPARE = {"key": 4096, "client": 1024, "plan": 256}, 64
 SHORTEST_SECRET = 16
-LONGER = "write a longer one there and at the device: openssl rand -hex 16"
-OWN = "give each its own: openssl rand -hex 16"
 # How old the balances may be, in seconds, if the server writes them each 10.
 OLDEST = 120
 # Of a storm of drops the last ones are looked at.
@@ -87,8 +85,7 @@ def configuration(book):
     if look.status_of(book.config) is None:
         yield Fault("config-wrong", f"there is no {book.config}", "radacctl setup")
         return
-    words = (site.program(), "check", "--config", book.config, "--explain")
-    status, said = look.run(*words)
+    status, said = look.run(site.program(), "check", "--config", book.config, "--explain")
     for line in said.splitlines():
         if "is the sample's, which is public" in line:
             yield Fault("sample-value", f"{book.config}: {line.removeprefix('warning: ')}",
@@ -102,9 +99,8 @@ def configuration(book):
     yield from plans_of(book, found)
     for name, most in LIMITS.items():
         if len(found.get(name, [])) > most - SPARE:
-            cure = "radacctl key expire; for more use 16 books: SHARDS.md"
             yield Fault("keys-full", f"{book.config} has {len(found[name])} [[{name}]] of {most}",
-                        cure)
+                        "radacctl key expire; for more use 16 books: SHARDS.md")
 
 
 def secrets(path, clients):
@@ -112,11 +108,12 @@ def secrets(path, clients):
     seen = {}
     for name, secret in clients:
         if len(secret) < SHORTEST_SECRET:
-            text = f"{path}: the secret of {name} has {len(secret)} characters"
-            yield Fault("secret-short", text, LONGER)
+            yield Fault("secret-short", f"{path}: the secret of {name} has {len(secret)} "
+                        "characters", "write a longer one there and at the device: openssl rand "
+                        "-hex 16")
         if secret in seen:
-            text = f"{path}: {seen[secret]} and {name} have one secret"
-            yield Fault("secret-shared", text, OWN)
+            yield Fault("secret-shared", f"{path}: {seen[secret]} and {name} have one secret",
+                        "give each its own: openssl rand -hex 16")
         seen[secret] = name
 
 
@@ -135,10 +132,9 @@ def plans_of(book, found):
                     f"--db {book.file}; systemctl start {book.unit}")
     for name in sorted(force):
         if wanted.get(name) != force[name]:
-            is_there = "is another one in" if name in wanted else "is not in"
-            text = ", ".join(force[name])
-            yield Fault("plan-lost", f"plan {name} ({text}) of the book {is_there} {book.config}",
-                        "write it back as it was: radacctl edit")
+            how = "is another one in" if name in wanted else "is not in"
+            yield Fault("plan-lost", f"plan {name} ({', '.join(force[name])}) of the book {how} "
+                        f"{book.config}", "write it back as it was: radacctl edit")
 
 
 def away(book):
@@ -186,9 +182,8 @@ def counts(book):
 
 def journal_of(book):
     """What a server printed in the last hour."""
-    words = ("journalctl", "-u", book.unit, "--since", "-1h", "-o", "cat", "--no-pager", "-n",
-             MOST_LINES)
-    return look.must(*words)
+    return look.must("journalctl", "-u", book.unit, "--since", "-1h", "-o", "cat", "--no-pager",
+                     "-n", MOST_LINES)
 
 
 def journal(book):
@@ -208,9 +203,9 @@ def journal(book):
 
 
 def modes(wanted):
-    for pattern, (most, owners, groups_allowed) in wanted.items():
+    for pattern, rights in wanted.items():
         for path in glob.glob(pattern):
-            yield from mode(path, most, owners, groups_allowed)
+            yield from mode(path, *rights)
 
 
 def mode(path, most, owners, groups_allowed):

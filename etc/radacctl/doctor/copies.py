@@ -67,13 +67,12 @@ def newest(folder, name):
         if not os.path.exists(f"{path}/{part}"):
             yield Fault("copy-bad", f"{path} has no {part}", NOW)
     if os.path.exists(f"{path}/site.tar.gz"):
-        tool = os.path.join(site.SBIN, "radacctl")
-        status, said = look.run(tool, "site", "test", f"{path}/site.tar.gz", seconds=1800)
+        status, said = look.run(f"{site.SBIN}/radacctl", "site", "test", f"{path}/site.tar.gz",
+                                seconds=1800)
         if status:
             yield Fault("copy-bad", f"{path}: {look.last_line(said)}", NOW)
     if not os.path.exists(f"{folder}/exports/{name}/sessions.csv.gz"):
-        text = f"{folder}/exports/{name} is missing: no report of that day"
-        yield Fault("copy-exports", text, NOW)
+        yield Fault("copy-exports", f"{folder}/exports/{name} is missing: no report of that day", NOW)
 
 
 def database():

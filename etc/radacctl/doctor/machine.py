@@ -40,25 +40,24 @@ def units(kind):
             yield Fault("unit-down", f"{unit} is {found['LoadState']}", cure.format(unit))
             continue
         if found.get("ActiveState") not in RUNS:
-            state = found.get("ActiveState", "unknown")
-            cure = f"systemctl start {unit}; why it stopped: journalctl -u {unit} -n 20"
-            yield Fault("unit-down", f"{unit} is {state}", cure)
+            yield Fault("unit-down", f"{unit} is {found.get('ActiveState', 'unknown')}",
+                        f"systemctl start {unit}; why it stopped: journalctl -u {unit} -n 20")
         if found.get("UnitFileState") not in ("enabled", "enabled-runtime", "static", "alias"):
             yield Fault("unit-off", f"{unit} does not start with the machine",
                         f"systemctl enable {unit}")
 
 
 def failed():
-    words = ("systemctl", "list-units", "--plain", "--no-legend", "--state=failed", "radacctd*")
-    for line in look.must(*words).splitlines():
+    for line in look.must("systemctl", "list-units", "--plain", "--no-legend", "--state=failed",
+                          "radacctd*").splitlines():
         unit = line.split()[0] if line.split() else ""
         if unit.startswith("radacctd"):
             # One that a socket made, or that is gone, runs no more. Any other one shows by a run
             # that it is mended.
             is_one_of_many = "@" in unit and not unit.startswith("radacctd@")
             act = "reset-failed" if is_one_of_many or "not-found" in line.split() else "start"
-            cure = f"journalctl -u {unit} -n 20; once it is mended: systemctl {act} {unit}"
-            yield Fault("unit-failed", f"{unit} has failed", cure)
+            yield Fault("unit-failed", f"{unit} has failed", f"journalctl -u {unit} -n 20; once it "
+                        f"is mended: systemctl {act} {unit}")
 
 
 def old_programs():
@@ -115,8 +114,8 @@ def lacks_group(unit, user, group):
 def clock(kind):
     now = time.time()
     if now < YEAR_2026:
-        text = f"the clock says {time.strftime('%F %T')}"
-        yield Fault("clock-wrong", text, "timedatectl set-ntp true, or set-time")
+        yield Fault("clock-wrong", f"the clock says {time.strftime('%F %T')}",
+                    "timedatectl set-ntp true, or set-time")
     for book in kind.books:
         for path in (book.balances, book.counts):
             status = look.status_of(path)

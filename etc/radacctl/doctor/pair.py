@@ -4,6 +4,7 @@ import http.client
 import json
 import time
 
+from radacctl import desk
 from radacctl.doctor import look
 from radacctl.doctor.faults import Fault
 
@@ -41,17 +42,13 @@ def compared():
 
 
 def outbox():
-    caller = http.client.HTTPConnection(*OUTBOX, timeout=5)
     try:
-        caller.request("GET", "/waiting")
-        found = json.loads(caller.getresponse().read(1 << 20))
+        found = json.loads(desk.ask(OUTBOX, "GET", "/waiting", "", patience=5)[1])
         alarms, waiting, oldest = found["alarms"], found["waiting"], found["oldest"]
     except (OSError, http.client.HTTPException, ValueError, KeyError, TypeError) as fault:
         yield Fault("pair-waits", f"the outbox does not answer: {type(fault).__name__}",
                     "systemctl restart radacctd-outbox")
         return
-    finally:
-        caller.close()
     for number in alarms:
         yield Fault("pair-alarm", f"one book took voucher {number}, and the other refuses it",
                     "radacctd-outbox --list; then read PAIR.md")

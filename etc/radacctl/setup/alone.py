@@ -173,7 +173,8 @@ def refuse_if_lost(is_new_wanted):
     copy = copies.last_good()
     traces = [
         (copy, f"the newest good copy is {copy}"),
-        (has_accounts(), f"{site.BALANCES} has accounts"),
+        # A line below its header.
+        (len(files.text(site.BALANCES).splitlines()) > 1, f"{site.BALANCES} has accounts"),
         (os.path.exists(PROVED), f"{PROVED} is there"),
     ]
     found = [text for is_there, text in traces if is_there]
@@ -184,20 +185,11 @@ def refuse_if_lost(is_new_wanted):
             "balance of anybody; --new-book makes one")
 
 
-def has_accounts():
-    """Whether the balances have a line below their header."""
-    return len(files.text(site.BALANCES).splitlines()) > 1
-
-
 def plans_are_in(answers):
     """Whether the book keeps each plan."""
     found = plans.in_force()
     wanted = {names.shown(it["class"].encode()) for it in answers.plans} | {"debit"}
     return found is not None and wanted <= set(found)
-
-
-def is_packaged():
-    return site.INSTALLED.startswith("/usr/libexec/")
 
 
 # After a power cut in the middle of an earlier installation, too. Another run of apt is waited for,
@@ -231,7 +223,7 @@ def is_installed(name):
 
 def user_steps():
     """The service's user and folders, if no package made them."""
-    if is_packaged():
+    if site.INSTALLED.startswith("/usr/libexec/"):
         return
     yield user(site.USER, site.READERS)
     yield Command("make the folders", lambda: os.path.isdir(os.path.dirname(site.BALANCES)),
