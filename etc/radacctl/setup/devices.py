@@ -15,8 +15,6 @@ MIKROTIK = """\
 /ip hotspot profile set [find] use-radius=yes radius-accounting=yes \\
     radius-interim-update={interval}m login-by=http-pap,https
 /system ntp client set enabled=yes servers=pool.ntp.org
-{garden}"""
-MIKROTIK_GARDEN = """\
 /ip hotspot walled-garden ip add action=accept dst-host={host} comment=radacctd
 """
 UNIFI = """\
@@ -28,10 +26,10 @@ UniFi Network, for {name}:
  5. WiFi, your network, Security: WPA2/3 Enterprise with this profile. Or Hotspot Portal,
     Authentication: RADIUS, with this profile; Disconnect Requests (CoA): on, port 3799.
  6. Each access point is a client of its own address: let {address} cover all of them.
-{garden}
+ 7. Hotspot, Landing Page, Pre-Authorization Access: {host}.
+
     shared secret: {secret}
 """
-UNIFI_GARDEN = " 7. Hotspot, Landing Page, Pre-Authorization Access: {host}."
 PFSENSE = """\
 pfSense, for {name}:
  1. System, User Manager, Authentication Servers, Add. Type RADIUS, Protocol PAP, Hostname
@@ -40,10 +38,10 @@ pfSense, for {name}:
  3. Accounting: send RADIUS accounting packets; Accounting updates: Interim.
  4. Reauthentication: off. Its interval of updates is a minute, and cannot be set.
  5. System, General Setup: a time server.
-{garden}
+ 6. Allowed Hostnames, Add: {host}, both directions.
+
     shared secret: {secret}
 """
-PFSENSE_GARDEN = " 6. Allowed Hostnames, Add: {host}, both directions."
 OPENWRT = """\
 # OpenWrt with wpad of WPA Enterprise: paste this into a shell of {name}, for its first network.
 uci set wireless.@wifi-iface[0].encryption=wpa2
@@ -73,8 +71,8 @@ aaa timers stats-timeout {interval}
     radius-accounting "radacctd"
     radius-interim-accounting
     rfc-3576-server "{server}"
-{garden}"""
-ARUBA_GARDEN = "# In the role before the login, what may be reached: {host}\n"
+# In the role before the login, what may be reached: {host}
+"""
 CISCO = """\
 ! Cisco IOS XE, for {name}: these lines of its configuration, as its manual names them. Not tried
 ! here. It takes no quota: who overdraws is disconnected at port 1700.
@@ -91,25 +89,20 @@ aaa accounting identity default start-stop group radacctd
 aaa server radius dynamic-author
  client {server} server-key {secret}
  port 1700
-{garden}"""
-CISCO_GARDEN = "! In the list of what may be reached before a login: {host}\n"
+! In the list of what may be reached before a login: {host}
+"""
 OTHER = """\
 {name}, as its own manual names these:
     RADIUS server {server}, authentication port 1812, accounting port 1813
     interim updates each {interval} minutes, gigawords on, Acct-Delay-Time on
     Disconnect-Requests (RFC 5176) from {server} at port 3799
     a clock set by NTP
-    {garden}
+    what may be reached without a login: {host}
     shared secret: {secret}
 """
-TEXTS = {
-    "mikrotik": (MIKROTIK, MIKROTIK_GARDEN), "unifi": (UNIFI, UNIFI_GARDEN),
-    "pfsense": (PFSENSE, PFSENSE_GARDEN), "openwrt": (OPENWRT, ""),
-    "aruba": (ARUBA, ARUBA_GARDEN), "cisco": (CISCO, CISCO_GARDEN),
-    "other": (OTHER, "what may be reached without a login: {host}"),
-}  # fmt: skip
-
-
+# A line with the name of the pages is for a site that has them.
+TEXTS = {"mikrotik": MIKROTIK, "unifi": UNIFI, "pfsense": PFSENSE, "openwrt": OPENWRT,
+         "aruba": ARUBA, "cisco": CISCO, "other": OTHER}
 # What a comment begins with, where the text is typed; and the first line without FreeRADIUS.
 MARKS = {"mikrotik": "# ", "openwrt": "# ", "aruba": "# ", "cisco": "! "}
 ALONE = """\
@@ -130,14 +123,15 @@ def quoted(text):
 
 
 def text_of(device, answers, secret):
-    text, garden = TEXTS[device["vendor"]]
+    lines = TEXTS[device["vendor"]].splitlines(True)
+    text = "".join(it for it in lines if answers.host or "{host}" not in it)
+    if not answers.has_front:
+        text = ALONE.format(mark=MARKS.get(device["vendor"], "")) + text
     values = {**device, "secret": secret, "server": answers.server or "ADDRESS-OF-THIS-MACHINE",
               "host": answers.host, "interval": INTERVAL, "seconds": 60 * INTERVAL,
               "routeros": routeros(secret), "quoted": quoted(secret),
               "family": "ipv6" if ":" in answers.server else "ipv4"}
-    if not answers.has_front:
-        text = ALONE.format(mark=MARKS.get(device["vendor"], "")) + text
-    return text.format(garden=garden.format(**values) if answers.host else "", **values)
+    return text.format(**values)
 
 
 def of(answers, config):
