@@ -139,10 +139,10 @@ class Answers(unittest.TestCase):
         """And what is expected. Each is put into a right file."""
         from radacctl.commands import setup
 
-        rows = (("decimals = 2", "decimals = 9", "decimals is 0 to 6"),
-                ("block = 10000000", "block = 0", "block is a whole number from 1 to"),
-                ("unit = 1", "unit = 1.5", "unit is a whole number from 0 to"),
-                ('"mikrotik" ', '"juniper" ', "vendor is one of mikrotik"),
+        rows = (("decimals = 2", "decimals = 9", "`decimals` is a whole number from 0 to 6"),
+                ("block = 10000000", "block = 0", "`block` is a whole number from 1 to"),
+                ("unit = 1", "unit = 1.5", "`unit` is a whole number from 0 to"),
+                ('"mikrotik" ', '"juniper" ', "`vendor` is one of mikrotik"),
                 ('"10.0.0.1"', '5', "no address"), ('"10.0.0.1"', '"10.0.0.1/24"', "host bits"),
                 ('"10.0.0.1"', '"127.0.0.8"', "this machine's own"),
                 ('"10.0.0.5" ', '"10.0.0.0/24" ', "no address of one machine"),

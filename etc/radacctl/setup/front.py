@@ -195,7 +195,7 @@ def clients(old, answers, books=None, reporting=()):
     if books and not re.search(r"(?m)^client books ", text):
         text = text.rstrip("\n") + "\n\n" + BOOKS.format(**books)
     known = dict(freeradius.blocks("client", freeradius.without_comments(text)))
-    test = {"name": TEST_USER, "address": TEST_ADDRESS, "vendor": "mikrotik", "version": 4}
+    test = {"name": TEST_USER, "address": TEST_ADDRESS, "vendor": "mikrotik"}
     for it in [*answers.access_servers, test]:
         if it["name"] in known:
             test_address(it, known[it["name"]])
@@ -208,7 +208,7 @@ def clients(old, answers, books=None, reporting=()):
         else:
             test_name(it)
             own = lambda: reported(it, reporting) or secret(answers, f"client-{it['name']}")
-            kind = "ipaddr" if it["version"] == 4 else "ipv6addr"
+            kind = "ipv6addr" if ":" in it["address"] else "ipaddr"
             values |= {"secret": covering(it) or quoted(own()), "kind": kind}
             text = text.rstrip("\n") + "\n\n" + CLIENT.format(**values)
         if values["cut"] == "yes":
