@@ -83,13 +83,6 @@ def copy_rights(handle, path):
             os.setxattr(handle, name, os.getxattr(path, name))
 
 
-def write_beside(path, text):
-    """Makes the file that is to take the place of a configuration, on the disk, with its rights."""
-    files.remove(path + NEW)
-    files.make(path + NEW, text.encode(), rights=lambda it: copy_rights(it, path))
-    return path + NEW
-
-
 def fault_of(new, path):
     """What radacctd says against a file that is to take the place of a configuration, or ''."""
     checker = site.program()
@@ -143,11 +136,10 @@ def test_same(text, was, wanted, path):
 
 def put_in_place(path, text, is_needed):
     """Renames a new file into place. Returns what is wrong with it; if it must be right, ends."""
+    new = path + NEW
     try:
-        new = write_beside(path, text)
-    except OSError as fault:
-        fail(f"cannot write {path}{NEW}: {fault.strerror}. Nothing was changed")
-    try:
+        files.remove(new)
+        files.make(new, text.encode(), rights=lambda it: copy_rights(it, path))
         fault = fault_of(new, path)
         if fault and is_needed:
             fail(f"{path} stays as it is, since it would be wrong:\n{fault}")
@@ -156,7 +148,7 @@ def put_in_place(path, text, is_needed):
         files.sync_folder(os.path.dirname(path))
     except OSError as fault:
         what = "Nothing was changed" if new else "The keys are as asked, unless power fails now"
-        fail(f"cannot write {path}: {fault.strerror}. {what}")
+        fail(f"cannot write {new or path}: {fault.strerror}. {what}")
     finally:
         if new:
             with contextlib.suppress(OSError):

@@ -288,15 +288,15 @@ def settings():
 @contextlib.contextmanager
 def postgres(block):
     """What begins a command of PostgreSQL's for the database of mods-enabled/sql, and its options.
-    None if radius_db may have the password, too: each user sees a command line.
+    OSError if radius_db may have the password, too: each user sees a command line.
 
     The password is in a file in memory: a run that is killed leaves none on the disk.
     """
     names = {"-h": "server", "-p": "port", "-U": "login", "-d": "radius_db"}
     found = {option: value(block, name) for option, name in names.items()}
     if "=" in found["-d"] or "://" in found["-d"]:
-        yield None
-        return
+        raise OSError("radius_db of mods-enabled/sql is to be the name of a database alone, with "
+                      "server, login and password on lines of their own")
     password = re.sub(r"([:\\])", r"\\\1", value(block, "password"))
     with tempfile.TemporaryDirectory(dir="/run") as folder:
         path = os.path.join(folder, "pgpass")

@@ -166,25 +166,20 @@ def dump_sql():
     text = freeradius.text("mods-enabled", "sql")
     if freeradius.value(text, "dialect") != "postgresql":
         return
-    os.makedirs(os.path.dirname(site.DUMP), mode=0o700, exist_ok=True)
-    with freeradius.postgres(text) as found:
-        if found is None:
-            say("FreeRADIUS' database is not in this copy: radius_db of mods-enabled/sql is to be "
-                "the name of a database alone, with server, login and password on lines of their "
-                "own")
-            return
-        files.remove(site.DUMP + ".new")
-        try:
-            words = [*found[0], "pg_dump", "-w", *found[1], "-f", site.DUMP + ".new"]
-            done = look.ran(words, 3600)
-            if done.returncode:
-                raise OSError(done.stderr.strip()[-200:])
-            with open(site.DUMP + ".new", "rb") as file:
-                os.fsync(file.fileno())
-            os.rename(site.DUMP + ".new", site.DUMP)
-        except OSError as why:
-            files.remove(site.DUMP + ".new")
-            say(f"FreeRADIUS' database is not in this copy as it is now: {why}")
+    new = site.DUMP + ".new"
+    os.makedirs(os.path.dirname(new), mode=0o700, exist_ok=True)
+    try:
+        files.remove(new)
+        with freeradius.postgres(text) as (begin, options):
+            done = look.ran([*begin, "pg_dump", "-w", *options, "-f", new], 3600)
+        if done.returncode:
+            raise OSError(done.stderr.strip()[-200:])
+        with open(new, "rb") as file:
+            os.fsync(file.fileno())
+        os.rename(new, site.DUMP)
+    except OSError as why:
+        files.remove(new)
+        say(f"FreeRADIUS' database is not in this copy as it is now: {why}")
 
 
 def save(words):

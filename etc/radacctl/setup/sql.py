@@ -84,12 +84,9 @@ def are_ended():
 def end_sessions():
     """Ends the sessions that radacct has as open: else each would count for Simultaneous-Use."""
     try:
-        with freeradius.postgres(freeradius.text("mods-enabled", "sql")) as found:
-            if found is None:
-                raise steps.Failed("radius_db of mods-enabled/sql is to be the name of a "
-                                   "database alone, with the password on a line of its own")
-            steps.given([*found[0], "psql", "-wqX", *found[1]], text=END)
-    except steps.Failed as why:
+        with freeradius.postgres(freeradius.text("mods-enabled", "sql")) as (begin, options):
+            steps.given([*begin, "psql", "-wqX", *options], text=END)
+    except (steps.Failed, OSError) as why:
         # The site works without it.
         print(f"the table radacct keeps its open sessions: {why}")
         return
