@@ -359,7 +359,7 @@ class Again(Folder):
         """One more, and each sum of it would be a tenth."""
         one = wanted(name="x", currency="EUR", decimals=0)
         for accounts, is_told in (({b"anna": 5}, True), ({web.pair.TEST: 0}, False), ({}, False)):
-            self.patched(web.names, "balances", lambda it=accounts: it)
+            self.patched(web.look.names, "balances", lambda it=accounts: it)
             for old, is_other in (('{"decimals": 2}', True), ('{"decimals": 0}', False), ("", False)):
                 if is_told and is_other:
                     self.assertRaisesRegex(steps.Failed, "has 2 decimals", web.settings, old, one)
@@ -529,7 +529,7 @@ class Again(Folder):
             self.assertEqual(web.Nginx().is_done(), is_done)
 
     def test_the_doctor_says_so(self):
-        self.patched(book, "groups_of", lambda _: [places.READERS])
+        self.patched(book.look, "run", lambda *_: (0, places.READERS))
         for lacks in (True, False):
             self.patched(machine, "lacks_group", lambda *_, it=lacks: it)
             found = [it.cure for it in book.groups(mock.Mock())]

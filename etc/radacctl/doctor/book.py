@@ -2,7 +2,6 @@
 
 import glob
 import os
-import pwd
 import re
 import time
 import tomllib
@@ -225,20 +224,14 @@ def mode(path, most, owners, groups_allowed):
                     f"chmod {most:o} {path}")
 
 
-def groups_of(user):
-    try:
-        pwd.getpwnam(user)
-    except KeyError:
-        return None
-    return look.must("id", "-Gn", user).split()
-
-
 def groups(kind):
     wanted = [(kind.has_front, site.RADIUS_USER), (kind.has_pages, site.WEB_USER)]
     for is_needed, user in wanted:
-        found = groups_of(user) if is_needed else None
-        if found is None:
+        # There may be no such user.
+        status, said = look.run("id", "-Gn", user) if is_needed else (1, "")
+        if status:
             continue
+        found = said.split()
         if site.USER in found:
             yield Fault("group-wrong", f"{user} is in the group {site.USER}, which reads secrets",
                         f"gpasswd -d {user} {site.USER}, and restart its service")

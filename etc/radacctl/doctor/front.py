@@ -208,12 +208,7 @@ def names_refused():
              for it in freeradius.selling()]
     if not any("filter_username" in it for it in found):
         return
-    try:
-        accounts = names.balances()
-    except ValueError:
-        return
-    count = sum(b" " in it for it in accounts)
-    if count:
+    if count := sum(b" " in it for it in look.balances()):
         yield Fault("names-refused", f"{count} accounts have a space, and filter_username refuses "
                     "their login", "write radacctd_filter in its place: " + PAGE)
 

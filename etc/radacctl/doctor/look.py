@@ -9,7 +9,7 @@ import tempfile
 import time
 from ssl import cert_time_to_seconds as seconds_of
 
-from radacctl import files
+from radacctl import files, names
 from radacctl.doctor.faults import Fault
 
 PATH = "/usr/sbin:/usr/bin:/sbin:/bin"
@@ -83,6 +83,14 @@ def samples(path):
             number = float(value)
             found.setdefault(name, []).append((dict(LABEL.findall(labels)), number))
     return found
+
+
+def balances():
+    """The balance of each account; none if no server has written them yet."""
+    try:
+        return names.balances()
+    except ValueError:
+        return {}
 
 
 def status_of(path):

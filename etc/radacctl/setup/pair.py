@@ -4,7 +4,8 @@ import hashlib
 import json
 import os
 
-from radacctl import desk, files, freeradius, names, site
+from radacctl import desk, files, freeradius, site
+from radacctl.doctor import look
 from radacctl.setup import steps
 from radacctl.setup.alone import NOTES, Command, File, Folder, unit
 from radacctl.setup.steps import Fresh, Link
@@ -25,11 +26,7 @@ def own(name):
 
 def test_book():
     """A book that has sold is not copied by a set-up."""
-    try:
-        accounts = names.balances()
-    except ValueError:
-        return
-    others = set(accounts) - {TEST}
+    others = set(look.balances()) - {TEST}
     if others and not files.text("/etc/default/radacctd-pair"):
         raise steps.Failed(f"the book has {len(others)} accounts already: make a pair of it by the "
                            "steps of PAIR.md, which copy the book")
@@ -79,7 +76,8 @@ def after(answers, config):
     socket = "radacctd-state.socket"
     yield Fresh(f"restart {socket}", socket, [f"{SYSTEMD}/{socket}"])
     # It fails as long as the other machine is not there.
-    yield Command("compare both books once", has_balances, "sh", "-c",
+    is_compared = lambda: files.text("/var/lib/radacctd-pair/balances.csv") != ""
+    yield Command("compare both books once", is_compared, "sh", "-c",
                   "systemctl start radacctd-compare 2>&1 || :")
     if not answers.secrets and not answers.pair["second"]:
         yield Once(OTHER, lambda _: text(answers, config), 0o600)
@@ -101,10 +99,6 @@ class Once(File):
     def do(self):
         super().do()
         File(WRITTEN, self.mark(), 0o600).do()
-
-
-def has_balances():
-    return files.text("/var/lib/radacctd-pair/balances.csv") != ""
 
 
 def text(answers, config):

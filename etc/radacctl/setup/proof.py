@@ -10,7 +10,7 @@ import os
 import secrets
 import time
 
-from radacctl import desk, files, freeradius, names, site
+from radacctl import desk, files, freeradius, site
 from radacctl.doctor import kind, look
 from radacctl.setup import alone, front, steps
 
@@ -74,10 +74,7 @@ class Proof:
         steps.wait_until(is_new, PATIENCE, lambda: why)
 
     def balance(self):
-        try:
-            return names.balances().get(ACCOUNT.encode())
-        except ValueError:
-            return None
+        return look.balances().get(ACCOUNT.encode())
 
     def wait(self, wanted, what):
         """Waits until the balances, which FreeRADIUS reads, have this one."""

@@ -6,8 +6,8 @@ import re
 import shlex
 import tempfile
 
-from radacctl import files, freeradius, money, names, site, stock
-from radacctl.doctor import machine, web as of_web
+from radacctl import files, freeradius, money, site, stock
+from radacctl.doctor import look, machine, web as of_web
 from radacctl.setup import clerk, pair, steps
 from radacctl.setup.alone import NOTES, Command, File, Folder, unit, user
 from radacctl.setup.front import is_debians, member
@@ -152,21 +152,14 @@ def settings(old, answers):
     except (ValueError, TypeError):
         raise steps.Failed(f"{money.SETTINGS} is no object of settings: mend it, or move it away")
     known = found.get("decimals", answers.decimals)
-    if known != answers.decimals and has_sold():
+    # Whether the book has an account besides that of the proof.
+    if known != answers.decimals and set(look.balances()) - {pair.TEST}:
         raise steps.Failed(f"{money.SETTINGS} has {known} decimals, and the answers have "
                            f"{answers.decimals}: each sum of the book would be another one")
     found |= {"name": answers.name, "url": f"https://{answers.host}",
               "currency": answers.currency, "decimals": answers.decimals,
               "time_classes": freeradius.settings()["time_classes"], "clerk": answers.has_clerk}
     return json.dumps(found, indent=2, ensure_ascii=False) + "\n"
-
-
-def has_sold():
-    """Whether the book has an account besides that of the proof."""
-    try:
-        return bool(set(names.balances()) - {pair.TEST})
-    except ValueError:
-        return False
 
 
 def logins():
