@@ -10,7 +10,7 @@ sys.path.append(os.path.join(ROOT, "etc"))
 
 from radacctl import names
 from radacctl import shards as books
-from radacctl.commands import shards
+from radacctl.commands import sell
 
 # As a file of vouchers spells them: % and two digits are one octet.
 MAY = ["al", "Al", "Mueller-1127", "anna maria", "-x", "=x", "+49 170 1", "@home", "a'b", "a,b"]
@@ -85,10 +85,11 @@ def test_rule():
 
 def test_parts():
     """A file for 16 books: a field with a formula's apostrophe goes to the book of its name."""
-    spelled = [f"'={at}" for at in range(40)]
-    parts = shards.Parts([[f"V-{it[2:]}", it, "5"] for it in spelled])
-    wanted = {it: books.shard_of(it[1:].encode()) for it in spelled}
-    found = {row[1]: shard for shard, rows in parts.rows.items() for row in rows}
+    rows = "".join(f"V-{at},'={at},5\n" for at in range(40))
+    vouchers, refused, *_ = sell.read(f"voucher,account,sum\n{rows}".encode(), frozenset())
+    parts, _ = sell.parts_of(vouchers, books.shard_of, refused)
+    wanted = {it: books.shard_of(it) for it in (b"=%d" % at for at in range(40))}
+    found = {it.account: shard for shard, part in parts.items() for it in part}
     check("of 16 books a formula's apostrophe is none of the name's", found, wanted)
 
 

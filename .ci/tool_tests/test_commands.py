@@ -13,7 +13,7 @@ import unittest
 from unittest import mock
 
 from radacctl import debits, desk, keys, names, shards as books, stock
-from radacctl.commands import debit, sell, shards
+from radacctl.commands import debit, sell
 from tool_tests import ROOT
 
 CONFIG = '''# A site.
@@ -264,10 +264,11 @@ class Shards(unittest.TestCase):
         one, other = "al", next(it for it in ("bo", "cy", "di", "ed") if (
             books.shard_of(it.encode()) != books.shard_of(b"al")))
         for mark in ("", "'"):
-            rows = [["-1", one, "5"], [mark + "-1", other, "5"]]
-            parts = shards.Parts(rows)
-            self.assertEqual(parts.refused, {3: "VoucherDiffers"})
-        self.assertEqual(shards.Parts([["-1", one, "5"], ["'-1", one, "5"]]).refused, {})
+            for second, wanted in ((other, {3: "VoucherDiffers"}), (one, {})):
+                rows = f"voucher,account,sum\n-1,{one},5\n{mark}-1,{second},5\n"
+                vouchers, refused, *_ = sell.read(rows.encode(), frozenset())
+                sell.parts_of(vouchers, books.shard_of, refused)
+                self.assertEqual(refused, wanted)
 
 
 class Program(unittest.TestCase):

@@ -12,7 +12,7 @@ import time
 import unittest
 from unittest import mock
 
-from radacctl import outbox, queues
+from radacctl import desk, outbox, queues
 from tool_tests import script
 
 COMPARE = script("etc", "pair", "radacctd-compare")
@@ -180,6 +180,20 @@ class Pair(unittest.TestCase):
         with mock.patch.object(outbox.sqlite3, "connect", swapped):
             self.assertRaises((OSError, sqlite3.Error), outbox.Store, path)
         self.assertFalse(os.path.exists(other))
+
+    def test_a_desk_is_back_by_an_answer_that_counts(self):
+        """One that answered 503 was told to be back, and to be away, each second."""
+        said, sale = [], {"account": "al", "sum": 5, "voucher": "V-1"}
+        away, taken = (desk.AWAY, 503, b"{}"), (desk.REPEAT, 200, b"{}")
+        with mock.patch.object(outbox, "warn", said.append), \
+                mock.patch.object(outbox, "AWAY", 0), \
+                mock.patch.object(desk, "credit", side_effect=[away, away, OSError("x"), taken]):
+            one = outbox.Desk("own", ("127.0.0.1", 1), "key")
+            for _ in range(3):
+                self.assertRaises(outbox.Away, one.take, sale, None)
+            self.assertEqual(len(said), 1)
+            self.assertEqual(one.take(sale, None), (outbox.TAKEN, True))
+        self.assertEqual(said[1:], ["the desk `own` is back"])
 
     def settle(self, *pairs):
         """What --settle prints and returns if both machines have these balances, turn by turn."""

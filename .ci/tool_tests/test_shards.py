@@ -1,5 +1,6 @@
-"""What is joined of 16 books, and how old it counts; a sale of which a part was killed; the doctor."""
+"""What is joined of 16 books, and how old it counts; sales; the doctor."""
 
+import collections
 import contextlib
 import io
 import os
@@ -9,7 +10,7 @@ import time
 import unittest
 from unittest import mock
 
-from radacctl import freeradius, shards as books, site
+from radacctl import desk, freeradius, shards as books, site
 from radacctl.commands import shards
 from radacctl.doctor import book, copies, front, kind
 from tool_tests import ROOT
@@ -288,24 +289,53 @@ class Doctor(unittest.TestCase):
 
 
 class Told(unittest.TestCase):
-    def test_a_part_that_was_killed_is_no_success(self):
-        parts = shards.Parts([["V-1", "al", "5"], ["V-2", "bo", "5"]])
-        answers = {"s1": ("added 1, repeated 0, refused 0\n", 0), "s2": ("", -9)}
-        said = io.StringIO()
-        with contextlib.redirect_stdout(said):
-            status = shards.tell_sale(parts, answers)
-        self.assertEqual(status, 1)
-        self.assertEqual(said.getvalue(), "added 1, repeated 0, refused 0\n"
-                         "s2: stopped by signal 9; give the same file again\n")
+    def sold(self, *words, text="", credit=None):
+        """What a sale to 16 books ends with and prints, and the sales that each desk got."""
+        got, said = collections.defaultdict(list), io.StringIO()
+
+        def took(where, key, account, total, number, **_):
+            got[where[1]].append((account, total, number))
+            return credit(where) if credit else (desk.NEW, 201, b"")
+
+        with tempfile.TemporaryDirectory() as folder:
+            for name, octets in (("table", TABLE.encode()), ("key", b"a-key-of-16-letters\n")):
+                with open(os.path.join(folder, name), "wb", opener=lambda it, way: os.open(
+                        it, way, 0o600)) as file:
+                    file.write(octets)
+            given = io.TextIOWrapper(io.BytesIO(text.encode()))
+            with mock.patch("sys.stdin", given), mock.patch.object(desk, "credit", took), \
+                    contextlib.redirect_stdout(said), contextlib.redirect_stderr(io.StringIO()):
+                status = shards.main(["--table", f"{folder}/table", "sell", "--key-file",
+                                      f"{folder}/key", *words])
+        return status, said.getvalue(), got
+
+    def test_each_voucher_is_sold_in_its_book_by_its_record(self):
+        rows = [("V-1", "al", 5), ("V-2", "bo", 6), ("V-1", "bo", 7), ("v", "al", 8), ("V-3", "al", 9),
+                ("V-1", "al", 5)]
+        text = "voucher,account,sum\n" + "".join("{},{},{}\n".format(*it) for it in rows)
+        status, said, got = self.sold(text=text)
+        wanted = "refused 2\n4: VoucherDiffers\n5: BadVoucher\n"
+        self.assertEqual((status, said), (1, f"added 4, repeated 0, {wanted}"))
+        port = lambda name: 8100 + books.SHARDS.index(books.shard_of(name))
+        self.assertEqual(got[port(b"bo")], [("bo", 6, "V-2")])
+        self.assertEqual(sorted(got[port(b"al")]), [("al", 5, "V-1"), ("al", 5, "V-1"),
+                                                    ("al", 9, "V-3")])
+        status, said, got = self.sold("--dry-run", text=text)
+        self.assertEqual((status, said, got), (1, f"vouchers 3, of 20 together, {wanted}", {}))
+
+    def test_a_book_that_does_not_answer_is_no_success(self):
+        """And the others go on."""
+        away, port = 8100 + books.SHARDS.index(books.shard_of(b"bo")), lambda it: it[1]
+        status, said, _ = self.sold(
+            "--give-up", "0", text="voucher,account,sum\nV-1,al,5\nV-2,bo,5\n",
+            credit=lambda it: (desk.AWAY, 503, b"") if port(it) == away else (desk.NEW, 201, b""))
+        self.assertEqual((status, said), (3, "added 1, repeated 0, refused 0\n"
+                                          f"{books.shard_of(b'bo')}: stopped: NoAnswer\n"))
 
     def test_the_sales_of_nginx_log_need_no_file(self):
         """Its status was that of a file with a wrong header."""
-        part = mock.patch.object(shards, "sell_part", lambda _, octets, options: (
-            "voucher,account,sum\n", 1 if octets or options != ["--logged"] else 0))
-        with part, mock.patch.object(shards.books, "table_of", lambda _: {"s0": None}), \
-                mock.patch("sys.stdin", None), contextlib.redirect_stdout(io.StringIO()) as said:
-            self.assertEqual(shards.main(["sell", "--logged"]), 0)
-        self.assertEqual(said.getvalue(), "voucher,account,sum\n")
+        status, said, got = self.sold("--logged", "--sales", "/nonexistent")
+        self.assertEqual((status, said, got), (0, "voucher,account,sum\n", {}))
 
     def test_no_alert_names_a_port_of_one_book_alone(self):
         with open(os.path.join(ROOT, "etc/monitoring/radacctd.rules.yml"), encoding="utf-8") as file:

@@ -55,19 +55,23 @@ def object_of(body):
         return None
 
 
-def topup(account, total, number):
-    """The body of a request that credits a voucher."""
-    return json.dumps({"account": account, "sum": total, "voucher": number})
+def credit(where, key, account, total, number, **how):
+    """Sends a voucher to a desk: what became of it, and the status and the body of the answer."""
+    body = json.dumps({"account": account, "sum": total, "voucher": number})
+    status, said = ask(where, "POST", "/topups", key, body, **how)
+    return meaning(status, object_of(said)), status, said
 
 
-def ask(where, method, path, key, body=None, patience=30, most=1 << 20):
-    """The status and the body that the desk at an address and a port gave."""
-    return send(http.client.HTTPConnection(*where, timeout=patience), method, path, key, body, most)
-
-
-def send(caller, method, path, key, body=None, most=1 << 20):
-    """The same of a connection, which then is closed."""
+def ask(where, method, path, key, body=None, patience=30, connect=None, most=1 << 20,
+        before=lambda: None):
+    """The status and the body that the desk at an address and a port gave. It has `connect` seconds
+    for a connection; `before` runs once it has one, and got nothing yet.
+    """
+    caller = http.client.HTTPConnection(*where, timeout=connect or patience)
     try:
+        caller.connect()
+        caller.sock.settimeout(patience)
+        before()
         caller.request(method, path, body, {"Desk-Key": key, "Connection": "close"})
         response = caller.getresponse()
         return response.status, response.read(most)

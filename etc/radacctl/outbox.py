@@ -124,26 +124,20 @@ class Desk:
         self.name, self.where, self.key = name, where, key
         self.away_until, self.told = 0, None
 
-    def ask(self, method, path, body=None, before=lambda: None):
-        """The status and the object that the desk gave. `before` runs once it is connected."""
+    def ask(self, call, *words, **how):
+        """What a call of the desk gave, or that there was no answer."""
         if self.is_away():
             raise Away(self.told)
-        caller = http.client.HTTPConnection(*self.where, timeout=CONNECT)
         try:
-            caller.connect()
-            caller.sock.settimeout(PATIENCE)
-            before()
-            caller.request(method, path, body, {"Desk-Key": self.key, "Connection": "close"})
-            reply = caller.getresponse()
-            found = reply.status, json.loads(reply.read())
-        except (OSError, http.client.HTTPException, ValueError) as fault:
+            return call(self.where, *words, connect=CONNECT, patience=PATIENCE, **how)
+        except (OSError, http.client.HTTPException) as fault:
             raise self.away(str(fault) or type(fault).__name__) from None
-        finally:
-            caller.close()
+
+    def back(self):
+        """Notes that the desk gave an answer that counts."""
         if self.told is not None:
             warn(f"the desk `{self.name}` is back")
             self.told = None
-        return found
 
     def is_away(self):
         return time.monotonic() < self.away_until
@@ -158,12 +152,20 @@ class Desk:
 
     def take(self, sale, before):
         """The state of a voucher after it was sent, and whether the book had it already."""
-        body = desks.topup(sale["account"], sale["sum"], sale["voucher"])
-        status, said = self.ask("POST", "/topups", body, before)
-        found = desks.meaning(status, said)
+        found, status, _ = self.ask(desks.credit, self.key, sale["account"], sale["sum"],
+                                    sale["voucher"], before=before)
         if found not in STATES:
             raise self.away(f"status {status}")
+        self.back()
         return STATES[found], found == desks.REPEAT
+
+    def overruns(self):
+        """Who is overdrawn, or None."""
+        status, said = self.ask(desks.ask, "GET", "/overruns", self.key)
+        found = desks.object_of(said) if status == 200 else None
+        if found is not None:
+            self.back()
+        return found
 
 
 class Outbox:
@@ -256,13 +258,11 @@ class Outbox:
         return UNAVAILABLE
 
     def overruns(self):
+        """What the first desk says that does."""
         for desk in self.desks:
-            try:
-                status, said = desk.ask("GET", "/overruns")
-                if status == 200:
-                    return status, said
-            except Away:
-                continue
+            with contextlib.suppress(Away):
+                if (found := desk.overruns()) is not None:
+                    return 200, found
         return UNAVAILABLE
 
     def work(self):

@@ -92,7 +92,7 @@ class Allowing:
 
     def __init__(self, words, rows):
         self.words, self.rows, self.faults = words, rows, []
-        self.desk = sells.Desk(words, sells.key_of(words))
+        self.desk = sells.desk_of(words)
         self.counts, self.taken = collections.Counter(), 0
         self.books, self.left = None, {}
         if words.lapse:

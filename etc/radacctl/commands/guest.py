@@ -237,12 +237,11 @@ def asked(account, total, words, is_lost):
     except desks.WrongKey as why:
         say(why)
         return desks.NO_KEY, is_lost
-    body = desks.topup(names.for_desk(account.encode()), total, number_of(account))
+    spelled, number = names.for_desk(account.encode()), number_of(account)
     end = time.monotonic() + words.give_up
     while True:
         try:
-            status, said = desks.ask((words.host, words.port), "POST", "/topups", key, body)
-            result = desks.meaning(status, desks.object_of(said))
+            result, *_ = desks.credit((words.host, words.port), key, spelled, total, number)
             is_lost |= result in (desks.AWAY, desks.STRANGE)
         except ConnectionRefusedError:
             result = desks.AWAY

@@ -208,24 +208,26 @@ def credit(words, logins_store, found, known):
 
     If this is killed before a sale is noted, the timer finds it in the balances.
     """
-    key = sells.key_of(words)
-    records = {at: sells.Record(at, number_of(it.account), it.account, it.credit)
-               for at, it in enumerate(found, 1)}
-    # The book says what was sold: an older one may lack sales that the logins have.
-    was_sold = {at: "repeat" for at, it in enumerate(found, 1)
-                if names.shown(it.account) in known}
-    sale = sells.Sale(sells.Desk(words, key), 1)
-    sale.send([it for at, it in records.items() if at not in was_sold], 1, len(records))
-    outcomes = {**was_sold, **sale.outcomes}
-    for at, record in records.items():
+    desk, outcomes, stop = sells.desk_of(words), {}, None
+    for at, it in enumerate(found, 1):
+        # The book says what was sold: an older one may lack sales that the logins have.
+        if names.shown(it.account) in known:
+            outcomes[at] = "repeat"
+        elif stop is None:
+            try:
+                record = sells.Record(at, number_of(it.account), it.account, it.credit)
+                outcomes[at] = desk.outcome(record)
+            except sells.Stop as why:
+                stop = why
         if outcomes.get(at) in ("new", "repeat"):
-            lapses.sold(logins_store, record.account, int(time.time()))
+            lapses.sold(logins_store, it.account, int(time.time()))
     price = sum(it.price for at, it in enumerate(found, 1) if outcomes.get(at) == "new")
-    if was_sold:
-        say(f"{len(was_sold)} of these codes were sold before, here or at the desk's page: "
-            "nothing was credited for them")
+    before = sum(names.shown(it.account) in known for it in found)
+    if before:
+        say(f"{before} of these codes were sold before, here or at the desk's page: nothing was "
+            "credited for them")
     program.show(f"price {site_money().shown(price)}")
-    return sells.report(outcomes, {}, sale.stop)
+    return sells.report(outcomes, {}, {"": stop} if stop else {})
 
 
 def site_money():

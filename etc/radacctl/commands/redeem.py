@@ -90,29 +90,6 @@ def key_of(path):
         raise Away(why) from None
 
 
-class Desk:
-    """One desk, connected, which got nothing yet."""
-
-    def __init__(self, where):
-        self.where = where
-        try:
-            self.caller = http.client.HTTPConnection(where, timeout=CONNECT)
-            self.caller.connect()
-        except (OSError, http.client.HTTPException) as fault:
-            raise Away(f"cannot connect to the desk {where}: {why_of(fault)}") from None
-        self.caller.sock.settimeout(PATIENCE)
-
-    def credit(self, key, account, total, code):
-        """The status and the object that the desk gave to a top-up."""
-        body = desks.topup(account, total, "W-" + code)
-        try:
-            status, said = desks.send(self.caller, "POST", "/topups", key, body, 4096)
-        except (OSError, http.client.HTTPException) as fault:
-            why = why_of(fault)
-            raise Away(f"no answer of the desk {self.where}: {why}; the same is right") from None
-        return status, desks.object_of(said)
-
-
 def why_of(fault):
     """A fault in words that are never those of a file, a header or an answer."""
     return (fault.strerror if isinstance(fault, OSError) else None) or type(fault).__name__
@@ -142,6 +119,8 @@ class Redeeming:
 
     def begin(self):
         """Says that the code is for the account, on the disk: unless it was withdrawn just now."""
+        if self.is_noted:
+            return
         with stocks.locked(FOLDER, LOCK):
             worth(self.code, self.given.state(self.code), self.account)
             self.given.note(stocks.GIVEN, self.code, self.account, " ".join(self.desks()))
@@ -156,25 +135,32 @@ class Redeeming:
         total = worth(self.code, self.state, self.account)
         statuses, taken = set(), set(self.state.taken)
         for where in self.desks():
-            desk = Desk(where)
-            if not self.is_noted:
-                self.begin()
-            status, said = desk.credit(self.key, self.account, total, self.code)
-            if desks.meaning(status, said) not in (desks.NEW, desks.REPEAT):
-                self.refused(where, status, said, taken)
+            found, status, said = self.credit(where, total)
+            if found not in (desks.NEW, desks.REPEAT):
+                self.refused(where, found, status, said, taken)
             if where not in taken:
                 self.note(stocks.TAKEN, where)
             taken.add(where)
             statuses.add(status)
         return Answered(200, result="new" if statuses == {201} else "repeat", sum=total)
 
-    def refused(self, where, status, said, taken):
+    def credit(self, where, total):
+        """What a desk did with the code. Before it gets it, the disk has for whom it is."""
+        try:
+            return desks.credit(where.rsplit(":", 1), self.key, self.account, total,
+                                "W-" + self.code, connect=CONNECT, patience=PATIENCE, most=4096,
+                                before=self.begin)
+        except (OSError, http.client.HTTPException) as fault:
+            why = why_of(fault)
+            raise Away(f"no answer of the desk {where}: {why}; the same is right") from None
+
+    def refused(self, where, found, status, said, taken):
         """Ends at a desk that did not take the code."""
-        error = said.get("error") if isinstance(said, dict) else None
-        is_sure = 400 <= status < 500 and error is not None
+        answer = desks.object_of(said)
+        is_sure = 400 <= status < 500 and isinstance(answer, dict) and answer.get("error") is not None
         if is_sure and self.state.account is None and not taken:
             self.note(stocks.REFUSED, where)
-        if desks.meaning(status, said) == desks.DIFFERS:
+        if found == desks.DIFFERS:
             if taken:
                 program.say(f"ALARM: {where} has a code for another account that "
                             f"{' '.join(sorted(taken))} took: radacctl voucher --list")

@@ -115,6 +115,8 @@ def header_fault(octets):
 
 def records_of(octets):
     """The numbered records of a file, without its header; a character stands for an octet."""
+    if len(octets) > LARGEST_TEXT:
+        raise Stop("Unreadable", "above 64 MiB: cut it in two")
     csv.field_size_limit(LARGEST_TEXT)
     text = octets.removeprefix(b"\xef\xbb\xbf").decode("latin-1")
     reader = (record for record in csv.reader(io.StringIO(text, newline="")) if record)
@@ -160,43 +162,41 @@ def tell(lines):
         program.say(f"if the book has such an account, give --known {site.BALANCES}")
 
 
-def split_repeats(vouchers):
-    """The first record of each number, and the later ones, which are sent after all of these: so
-    the first one in the file is the one that counts.
+def parts_of(vouchers, book_of, refused):
+    """The first record of each number, by its book, and the later ones, which are sent after all of
+    these: so the first one in the file is the one that counts. Of another book they are refused,
+    since both would credit the number.
     """
-    seen, firsts, later = set(), [], []
+    seen, firsts, later = {}, collections.defaultdict(list), collections.defaultdict(list)
     for record in vouchers:
-        (later if record.voucher in seen else firsts).append(record)
-        seen.add(record.voucher)
+        book = book_of(record.account)
+        if seen.get(record.voucher, book) != book:
+            refused[record.number] = CAUSES[desks.DIFFERS]
+        else:
+            (later if record.voucher in seen else firsts)[book].append(record)
+        seen.setdefault(record.voucher, book)
     return firsts, later
 
 
 class Desk:
     """Sends one voucher after the other, until each is answered."""
 
-    def __init__(self, words, key):
-        self.words, self.key = words, key
+    def __init__(self, where, key, give_up):
+        self.where, self.key, self.give_up = where, key, give_up
         self.lock = threading.Lock()
         self.answered_at, self.is_away = time.monotonic(), False
 
-    def post(self, record):
-        """The status and the body that the desk gave."""
-        account = names.for_desk(record.account)
-        body = desks.topup(account, record.sum, record.voucher)
-        where = self.words.host, self.words.port
-        return desks.ask(where, "POST", "/topups", self.key, body)
-
     def outcome(self, record):
         """`new`, `repeat`, or the cause for which it was refused."""
-        pause = FIRST_PAUSE
+        pause, account = FIRST_PAUSE, names.for_desk(record.account)
         while True:
             try:
-                status, body = self.post(record)
-                why = f"status {status}"
-                found = desks.meaning(status, desks.object_of(body))
+                found, status, body = desks.credit(self.where, self.key, account, record.sum,
+                                                   record.voucher)
                 if found != desks.AWAY:
                     self.told_away(None)
                     return judged(found, status, body)
+                why = f"status {status}"
             except (OSError, http.client.HTTPException) as fault:
                 why = str(fault) or type(fault).__name__
             self.told_away(why)
@@ -206,7 +206,7 @@ class Desk:
     def told_away(self, why):
         """Tells once that the desk is away, and that it is back; stops if it is away too long."""
         with self.lock:
-            where = f"{self.words.host}:{self.words.port}"
+            where = "{}:{}".format(*self.where)
             if why is None:
                 if self.is_away:
                     program.say(f"the desk at {where} is back")
@@ -215,8 +215,8 @@ class Desk:
             if not self.is_away:
                 program.say(f"no answer from the desk at {where} ({why}); trying again")
             self.is_away = True
-            if time.monotonic() - self.answered_at > self.words.give_up:
-                raise Stop("NoAnswer", f"no answer for {self.words.give_up} s", 3)
+            if time.monotonic() - self.answered_at > self.give_up:
+                raise Stop("NoAnswer", f"no answer for {self.give_up} s", 3)
 
 
 def judged(found, status, body):
@@ -229,79 +229,79 @@ def judged(found, status, body):
 
 
 class Sale:
-    """The vouchers that are to be sent, and what came of each."""
+    """The vouchers that are to be sent to the desk of each book, and what came of each."""
 
-    def __init__(self, desk, in_flight):
-        self.desk, self.in_flight = desk, in_flight
+    def __init__(self, desks, total):
+        self.desks, self.total = desks, total
         self.lock = threading.Lock()
-        self.outcomes, self.stop, self.began = {}, None, time.monotonic()
+        self.outcomes, self.stops, self.began = {}, {}, time.monotonic()
 
-    def take(self, waiting):
+    def take(self, book, waiting):
         """The work of one sender."""
         while True:
             with self.lock:
-                if self.stop or not waiting:
+                if book in self.stops or not waiting:
                     return
                 record = waiting.popleft()
             try:
-                outcome = self.desk.outcome(record)
+                outcome = self.desks[book].outcome(record)
             except Stop as stop:
                 with self.lock:
-                    self.stop = self.stop or stop
+                    self.stops.setdefault(book, stop)
                 return
             with self.lock:
                 self.outcomes[record.number] = outcome
 
-    def send(self, vouchers, senders, total):
-        """Sends vouchers by so many senders, and shows how far it is."""
-        waiting = collections.deque(vouchers)
-        work = [threading.Thread(target=self.take, args=(waiting,)) for _ in range(senders)]
+    def send(self, parts, senders):
+        """Sends the vouchers of each book by so many senders, and shows how far it is."""
+        work = []
+        for book, part in parts.items():
+            waiting = collections.deque(part)
+            work += [threading.Thread(target=self.take, args=(book, waiting), daemon=True)
+                     for _ in range(senders)]
         for thread in work:
-            thread.daemon = True
             thread.start()
         shown_at = time.monotonic()
-        for thread in work:
-            while thread.is_alive():
-                thread.join(0.1)
-                if time.monotonic() - shown_at >= PROGRESS:
-                    shown_at = time.monotonic()
-                    self.show(total)
+        while work := [it for it in work if it.is_alive()]:
+            work[0].join(0.1)
+            if time.monotonic() - shown_at >= PROGRESS:
+                shown_at = time.monotonic()
+                self.show()
 
-    def show(self, total):
+    def show(self):
         with self.lock:
             found = collections.Counter(self.outcomes.values())
-            done = len(self.outcomes)
-        rate = done / max(time.monotonic() - self.began, 0.001)
+        done, seconds = sum(found.values()), max(time.monotonic() - self.began, 0.001)
         added, repeated = found.pop("new", 0), found.pop("repeat", 0)
         refused = sum(found.values())
         counts = f"new {added}, repeat {repeated}, refused {refused}"
-        program.say(f"{done} of {total}: {counts}, {rate:.0f}/s")
+        program.say(f"{done} of {self.total}: {counts}, {done / seconds:.0f}/s")
 
 
-def report(outcomes, refused, stop):
+def report(outcomes, refused, stops):
     """Prints the report of an import, and returns the status to end with."""
     found = collections.Counter(outcomes.values())
     causes = {number: it for number, it in outcomes.items() if it not in ("new", "repeat")}
     causes |= refused
     print(f"added {found['new']}, repeated {found['repeat']}, refused {len(causes)}")
-    return end_of_report(causes, stop)
+    return end_of_report(causes, stops)
 
 
-def end_of_report(causes, stop):
-    """Prints what was refused, and why it ended early; returns the status to end with."""
+def end_of_report(causes, stops):
+    """Prints what was refused, and why it ended early, by the books; the status to end with."""
     for number in sorted(causes):
         print(f"{number}: {causes[number]}")
-    if stop is None:
-        return 1 if causes else 0
-    print(f"stopped: {stop}", flush=True)
-    if stop.line:
-        program.say(stop.line)
-    if stop.status == 3:
+    for book, stop in stops.items():
+        print(f"{book}: " * bool(book) + f"stopped: {stop}", flush=True)
+        if stop.line:
+            program.say(stop.line)
+    status = max((it.status for it in stops.values()), default=1 if causes else 0)
+    if status == 3:
         program.say("give the same file again: nothing is credited twice")
-    return stop.status
+    return status
 
 
-def dry_run(vouchers, refused, stop):
+def dry_run(vouchers, refused, stops):
     """Prints what the file is, as far as it can be known without the book."""
     first = {}
     for record in vouchers:
@@ -310,7 +310,7 @@ def dry_run(vouchers, refused, stop):
             refused[record.number] = "VoucherDiffers"
     total = sum(it.sum for it in first.values())
     print(f"vouchers {len(first)}, of {total} together, refused {len(refused)}")
-    return end_of_report(refused, stop)
+    return end_of_report(refused, stops)
 
 
 def logged(words):
@@ -364,6 +364,11 @@ def key_of(words):
         return program.fail(why)
 
 
+def desk_of(words):
+    """The desk by the options of a sale."""
+    return Desk((words.host, words.port), key_of(words), words.give_up)
+
+
 def parser():
     it = program.parser(__doc__)
     add_desk(it, 600)
@@ -379,6 +384,11 @@ def parser():
 
 def main(words):
     words = parser().parse_args(words)
+    return sell(words, {"": (words.host, words.port)}, lambda account: "")
+
+
+def sell(words, places, book_of):
+    """Sells a file at the desk of each account's book: the places of these by the books' names."""
     if words.logged:
         return print_logged(words)
     key = None if words.dry_run else key_of(words)
@@ -386,18 +396,16 @@ def main(words):
     if sys.stdin.isatty():
         program.fail(f"give a file of vouchers: {program.NAME} < vouchers.csv")
     octets = sys.stdin.buffer.read(LARGEST_TEXT + 1)
-    if len(octets) > LARGEST_TEXT:
-        return report({}, {}, Stop("Unreadable", "above 64 MiB: cut it in two"))
     try:
         vouchers, refused, said, is_cut = read(octets, known)
     except Stop as stop:
-        return report({}, {}, stop)
-    stop = Stop("TooMany") if is_cut else None
+        return report({}, {}, {"": stop})
+    stops = {"": Stop("TooMany")} if is_cut else {}
     tell(said)
+    firsts, later = parts_of(vouchers, book_of, refused)
     if words.dry_run:
-        return dry_run(vouchers, refused, stop)
-    sale = Sale(Desk(words, key), words.in_flight)
-    firsts, later = split_repeats(vouchers)
-    sale.send(firsts, words.in_flight, len(vouchers))
-    sale.send(later, 1, len(vouchers))
-    return report(sale.outcomes, refused, sale.stop or stop)
+        return dry_run(vouchers, refused, stops)
+    sale = Sale({book: Desk(it, key, words.give_up) for book, it in places.items()}, len(vouchers))
+    sale.send(firsts, words.in_flight)
+    sale.send(later, 1)
+    return report(sale.outcomes, refused, stops | sale.stops)

@@ -35,21 +35,17 @@ gave radacctd-sell no answer. `for`, `debit` and `key` end as their command does
 """
 
 import argparse
-import concurrent.futures
 import csv
 import gzip
-import io
 import os
-import re
 import subprocess
 import sys
 import time
-import urllib.parse
 
-from radacctl import names, program, shards as books, site
+from radacctl import program, shards as books, site
+from radacctl.commands import sell as sells
 from radacctl.names import octets_of, shown
 
-VOUCHERS = ["voucher", "account", "sum"]
 FREERADIUS = """\
 home_server radacctd-{shard} {{
 	type = acct
@@ -83,8 +79,6 @@ BOOK = ["--config", "/etc/radacctd-{shard}.toml", "--db", "/var/lib/radacctd/{sh
 DEBIT = ["radacctl", "debit", *BOOK, "--host", "{address}", "--port", "{radius}"]
 DEBIT += ["--journal", "/var/lib/radacctd-books/{shard}.csv"]
 KEY = ["radacctl", "key", *BOOK, "--prefix", "{shard}-"]
-# What radacctd-sell prints at its end, of a sale and of a dry run.
-SUMMARY = re.compile(r"(added|vouchers) (\d+)(, repeated|, of) (\d+)( together)?, refused (\d+)")
 MADE = "# Made by radacctd-shards of its table: change that, and make this again.\n"
 
 
@@ -176,83 +170,11 @@ def nginx_of(table):
 SETTINGS = {"freeradius": freeradius_of, "nginx": nginx_of}
 
 
-class Parts:
-    """The records of a file of vouchers, each in the part of its book."""
-
-    def __init__(self, rows):
-        self.rows = {it: [] for it in books.SHARDS}
-        # A record's number in the file, by its book and its number in the part.
-        self.numbers, self.refused = {}, {}
-        seen = {}
-        for number, row in enumerate(rows, 2):
-            # What is no voucher is refused by radacctd-sell, whichever book it asks.
-            spelled = names.text_of_cell(row[1]) if row[1:] else ""
-            account = urllib.parse.unquote_to_bytes(spelled.encode("latin-1"))
-            shard = books.shard_of(account)
-            # Two books would both credit the number, however a spreadsheet marked it.
-            if len(row) == 3 and seen.setdefault(names.text_of_cell(row[0]), shard) != shard:
-                self.refused[number] = "VoucherDiffers"
-                continue
-            self.rows[shard].append(row)
-            self.numbers[shard, len(self.rows[shard]) + 1] = number
-
-    def text(self, shard):
-        made = io.StringIO(newline="")
-        csv.writer(made, lineterminator="\n").writerows([VOUCHERS, *self.rows[shard]])
-        return made.getvalue().encode("latin-1")
-
-
-def sell_part(place, octets, options):
-    """What the tool that sells said of a part, and its status."""
-    words = [f"{site.SBIN}/radacctl", "sell", "--host", place["address"]]
-    words += ["--port", str(place["desk"]), *options]
-    done = subprocess.run(words, input=octets, capture_output=True)
-    for line in done.stderr.decode(errors="replace").splitlines():
-        print(f"{place['shard']}: {line}", file=sys.stderr)
-    return done.stdout.decode(errors="replace"), done.returncode
-
-
 def sell(words, table):
-    # What nginx logged is of all books.
-    octets = b"" if {"--help", "--logged"} & {*words.option} else sys.stdin.buffer.read()
-    text = octets.removeprefix(b"\xef\xbb\xbf").decode("latin-1")
-    header, *rows = [row for row in csv.reader(io.StringIO(text, newline="")) if row] or [[]]
-    if header != VOUCHERS:
-        said, status = sell_part(table["s0"], octets, words.option)
-        print(said, end="")
-        return status
-    parts = Parts(rows)
-    named = [it for it in books.SHARDS if parts.rows[it]]
-    with concurrent.futures.ThreadPoolExecutor(len(books.SHARDS)) as pool:
-        ask = lambda it: sell_part(table[it], parts.text(it), words.option)
-        answers = dict(zip(named, pool.map(ask, named)))
-    return tell_sale(parts, answers)
-
-
-def tell_sale(parts, answers):
-    """Prints the report of all books as radacctd-sell prints that of one."""
-    names, sums = ("added", "repeated"), [0, 0, len(parts.refused)]
-    causes, stops = dict(parts.refused), []
-    for shard, (said, status) in answers.items():
-        for line in said.splitlines():
-            if found := SUMMARY.fullmatch(line):
-                names = (found[1], found[3].strip(", "))
-                sums = [it + int(found[at]) for it, at in zip(sums, (2, 4, 6))]
-            elif found := re.fullmatch(r"(\d+): (\w+)", line):
-                causes[parts.numbers[shard, int(found[1])]] = found[2]
-            else:
-                stops.append(f"{shard}: {line}")
-        if status < 0:
-            stops.append(f"{shard}: stopped by signal {-status}; give the same file again")
-    end = " together" if names[0] == "vouchers" else ""
-    print(f"{names[0]} {sums[0]}, {names[1]} {sums[1]}{end}, refused {sums[2]}")
-    for number in sorted(causes):
-        print(f"{number}: {causes[number]}")
-    print("".join(it + "\n" for it in stops), end="")
-    # A tool that was killed has a status below 0.
-    statuses = {1 if it < 0 else it for _, it in answers.values()}
-    statuses |= {1} if parts.refused else set()
-    return max(statuses, default=0)
+    """Sells each voucher of a file in the book of its account."""
+    own = sells.parser().parse_args(words.option)
+    places = {shard: (it["address"], it["desk"]) for shard, it in table.items()}
+    return sells.sell(own, places, books.shard_of)
 
 
 def faults_of(shard, rows, oldest):

@@ -84,14 +84,13 @@ class Proof:
 
     def sell(self, total):
         number = f"SETUP-{secrets.token_hex(8).upper()}"
-        body = desk.topup(ACCOUNT, total, number)
         end = time.monotonic() + PATIENCE
         while True:
             try:
                 # In a pair the outbox gives a sale to both books.
                 where = ("127.0.0.1", 8067) if self.answers.pair else kind.Book().desk()
-                status, said = desk.ask(where, "POST", "/topups", self.config.keys["cashier"], body)
-                found = desk.meaning(status, desk.object_of(said))
+                found, status, _ = desk.credit(where, self.config.keys["cashier"], ACCOUNT, total,
+                                               number)
             except (OSError, http.client.HTTPException) as fault:
                 found, status = desk.AWAY, str(fault)
             if found in (desk.NEW, desk.REPEAT):
