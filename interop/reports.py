@@ -307,7 +307,7 @@ def test_report(folder):
     plans = [f"default,1,0,{5 * MIB},30", f"gold,2,0,{210 * MIB},2100"]
     check("of the long session what is of the month", tables["plans.csv"], plans)
     status, text, _ = reported(nights, f"{folder}/day", "day", "2026-10-01")
-    check("a folder that is there is not written over", (status, "cannot write" in text), (1, True))
+    check("a folder that is there is not written over", (status, "File exists" in text), (1, True))
     status, text, _ = reported(nights, f"{folder}/none", "day", "2026-09-01")
     check("no exports of a date", (status, "no two exports" in text), (1, True))
     report_of_gone(nights, folder)

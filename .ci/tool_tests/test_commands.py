@@ -12,7 +12,7 @@ import tomllib
 import unittest
 from unittest import mock
 
-from radacctl import debits, desk, keys, names, shards as books, stock
+from radacctl import debits, desk, keys, main, names, shards as books, stock
 from radacctl.commands import debit, sell
 from tool_tests import ROOT
 
@@ -73,7 +73,7 @@ class DebitCommand(unittest.TestCase):
             path = os.path.join(folder, "debits.csv")
             with open(path, "w", encoding="utf-8") as file:
                 file.write("account,sum,number\nal,5,V-1\nbo,6,V-2\n")
-            status = debit.main([it.format(path) for it in words])
+            status = main.run(debit, [it.format(path) for it in words])
         return status, [it.args for it in books.take.call_args_list]
 
     def test_statuses(self):
@@ -197,9 +197,10 @@ class Logged(unittest.TestCase):
     def test_no_export(self):
         for text in ("", "voucher,account,sum\nD-2,al,5\n"):
             self.write(self.but, text)
-            with contextlib.redirect_stderr(io.StringIO()):
-                self.assertRaises(SystemExit, sell.main, ["--logged", "--sales", self.log, "--but",
-                                                          self.but])
+            with contextlib.redirect_stderr(io.StringIO()) as said:
+                words = ["--logged", "--sales", self.log, "--but", self.but]
+                self.assertEqual(main.run(sell, words), 1)
+            self.assertIn("is no export of topups", said.getvalue())
 
 
 class Stock(unittest.TestCase):

@@ -841,8 +841,9 @@ class Others(Folder):
         for octets in (b'account,sum,number,code\n"' + b"x" * 200_000,
                        b'account,sum,number,code\n"a"\rb,c,d\n', b"code\ra\rb"):
             self.write(octets)
-            self.assertRaises(debits.Refused, debit.debits_of, self.path)
-            self.assertRaises(ValueError, allow.rows_of, self.path, "2026-12", 5, moneys.Money())
+            wrong = allow.names.WrongFile
+            self.assertRaises(wrong, debit.debits_of, self.path)
+            self.assertRaises(wrong, allow.rows_of, self.path, "2026-12", 5, moneys.Money())
             with self.assertRaises(SystemExit), contextlib.redirect_stderr(io.StringIO()) as said:
                 voucher.codes_in(self.path)
             self.assertIn("Nothing was withdrawn", said.getvalue())

@@ -17,6 +17,7 @@ import tempfile
 import time
 import zlib
 
+from radacctl import program
 from radacctl.files import FOLDER, opened_folder as opened, regular
 
 SUMMARY = "radacctd-site.json"
@@ -25,7 +26,7 @@ FORMAT = 1
 CHUNK, TRIES, QUIET = 1 << 20, 100, 0.1  # octets, runs, seconds
 
 
-class Wrong(Exception):
+class Wrong(program.Failed):
     """Why not all was done."""
 
 

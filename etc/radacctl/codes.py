@@ -36,15 +36,12 @@ def sheet(rows, texts, link):
 def log(row):
     """Adds a sheet to root's log, before one of its codes can be sold."""
     files.make_folder(os.path.dirname(LOG))
-    it = stock.Log(LOG, LOG_HEADER)
-    it.add(stock.lines_of([row]))
-    it.close()
+    stock.add_rows(LOG, LOG_HEADER, [row])
 
 
 def sold():
     """What a code of each sheet gives, and costs."""
-    rows = stock.rows_in(LOG, LOG_HEADER, 5)
-    return {row[1]: (int(row[3]), int(row[4])) for row in rows}
+    return {row[1]: (int(row[3]), int(row[4])) for row in stock.rows_in(LOG, LOG_HEADER)}
 
 
 def await_balances(moment, path=None):

@@ -42,12 +42,14 @@ unit = 1
 """
 
 
-class Refused(Exception):
+class Refused(program.Failed):
     """Why a debit is not sent."""
 
 
-class NoAnswer(Exception):
+class NoAnswer(program.Failed):
     """What to do about a debit that was sent and not answered."""
+
+    status = 3
 
 
 def secret_of(path):

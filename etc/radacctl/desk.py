@@ -7,6 +7,8 @@ import os
 import re
 import stat
 
+from radacctl import program
+
 # The number of a voucher, and a key.
 NUMBER, TOKEN = re.compile("[A-Z0-9-]{1,32}"), re.compile("[A-Za-z0-9-]{16,64}")
 TOKEN_RULE = "16 to 64 of A-Z a-z 0-9 and -"
@@ -25,7 +27,7 @@ ANSWERS = {
 }
 
 
-class WrongKey(Exception):
+class WrongKey(program.Failed):
     """Why a file has no key that may be used. It has no octet of the file."""
 
 

@@ -10,7 +10,7 @@ import re
 import time
 import zlib
 
-from radacctl import names
+from radacctl import names, program
 
 DATED = re.compile(r"\d{4}-\d{2}-\d{2}(\.\d{6})?")
 COLUMNS = {
@@ -21,7 +21,7 @@ COLUMNS = {
 }
 
 
-class Broken(Exception):
+class Broken(program.Failed):
     """Why there is no report."""
 
 

@@ -24,7 +24,7 @@ import select
 import subprocess
 import weakref
 
-from radacctl import files, freeradius, names, site, stock
+from radacctl import files, freeradius, names, program, site, stock
 
 FOLDER, USES_FOLDER = "/var/lib/radacctd-logins", "/var/lib/radacctd-uses"
 FILE, USES = f"{FOLDER}/logins.db", f"{USES_FOLDER}/uses.db"
@@ -104,7 +104,7 @@ for line in sys.stdin:
 LOST = re.compile("no such table|not a database|malformed|no such column")
 
 
-class Fault(Exception):
+class Fault(program.Failed):
     """Why a database cannot be read or written."""
 
 
@@ -275,18 +275,16 @@ def package_row(store, package):
 def ended_in(path=LOG):
     """The last state of each login that ended, by its account."""
     found = {}
-    for row in stock.rows_in(path, LOG_HEADER, 3):
-        if row[2] in ORDER[2:]:
-            account = names.octets_of(names.text_of_cell(row[1]))
-            if ORDER.index(row[2]) > ORDER.index(found.get(account, LIVE)):
-                found[account] = row[2]
+    for _, account, state in stock.rows_in(path, LOG_HEADER):
+        account = names.octets_of(account)
+        if state in ORDER and ORDER.index(state) > ORDER.index(found.get(account, LIVE)):
+            found[account] = state
     return found
 
 
 def log_ended(accounts, state, now, path=LOG):
     """Adds accounts to the log of what ended; they are on the disk then, or it is a fault."""
-    with contextlib.closing(stock.Log(path, LOG_HEADER)) as log:
-        log.add(stock.lines_of([now, names.shown(it), state] for it in accounts))
+    stock.add_rows(path, LOG_HEADER, ([now, names.shown(it), state] for it in accounts))
 
 
 def mend(store, path=LOG):

@@ -4,7 +4,7 @@ import importlib
 import os
 import sys
 
-from radacctl import program
+from radacctl import program, site
 
 # Each command, what it does, and its older name.
 COMMANDS = {
@@ -65,13 +65,20 @@ def main(path):
     if command in SCRIPTS:
         script = os.path.join(os.path.dirname(os.path.realpath(path)), SCRIPTS[command])
         os.execv(script, [script, *words])
-    module = importlib.import_module(f"radacctl.commands.{command}")
+    return run(importlib.import_module(f"radacctl.commands.{command}"), words)
+
+
+def run(module, words):
+    """The status of a command, which says why it did not do all."""
     try:
         return module.main(words)
-    except KeyboardInterrupt:
-        program.say(getattr(module, "STOPPED", "stopped"))
-        return 130
     except BrokenPipeError:
         # Who read it has gone: nothing more is written, and no fault is printed at the end.
         os.dup2(os.open(os.devnull, os.O_WRONLY), sys.stdout.fileno())
         return 1
+    except (program.Failed, site.Missing, OSError) as why:
+        program.say(program.reason(why))
+        return getattr(why, "status", 1)
+    except KeyboardInterrupt:
+        program.say(getattr(module, "STOPPED", "stopped"))
+        return 130

@@ -3,10 +3,16 @@
 import json
 import re
 
+from radacctl import program
+
 LARGEST_SUM = 1_000_000_000_000
 DIGITS = re.compile("[0-9]{1,13}")
 SETTINGS = "/etc/radacctd-web/settings.json"
 MOST_DECIMALS = 6
+
+
+class Wrong(program.Failed, ValueError):
+    """What is wrong with a file of the site's settings."""
 
 
 def sum_of(text):
@@ -17,17 +23,20 @@ def sum_of(text):
 
 
 def settings_in(path=SETTINGS):
-    """The settings of the pages, each of its kind: ValueError says what is wrong."""
-    with open(path, encoding="utf-8") as file:
-        found = json.load(file)
+    """The settings of the pages, each of its kind."""
+    try:
+        with open(path, encoding="utf-8") as file:
+            found = json.load(file)
+    except ValueError as why:
+        raise Wrong(f"{path} is no JSON: {why}") from None
     if not isinstance(found, dict):
-        raise ValueError(f"{path} is no object of settings")
+        raise Wrong(f"{path} is no object of settings")
     decimals = found.setdefault("decimals", 0)
     if type(decimals) is not int or not 0 <= decimals <= MOST_DECIMALS:
-        raise ValueError(f"{path}: decimals is a number from 0 to {MOST_DECIMALS}")
+        raise Wrong(f"{path}: decimals is a number from 0 to {MOST_DECIMALS}")
     for name in ("name", "url", "currency", "time_classes"):
         if not isinstance(found.setdefault(name, ""), str):
-            raise ValueError(f"{path}: {name} is a text")
+            raise Wrong(f"{path}: {name} is a text")
     return found
 
 

@@ -12,7 +12,7 @@ import re
 import string
 import urllib.parse
 
-from radacctl import files, site
+from radacctl import files, program, site
 
 LONGEST = 253
 # The header of a file of balances.
@@ -31,6 +31,10 @@ FORMULA = re.compile(r"'*[=+\-@\t\r]")
 # The same behind what separates fields for a spreadsheet of another country; and as it is written.
 INNER = re.compile(r"[;|](?=[=+\-@\t\r])")
 INNER_SPELLED = re.compile(r"%(?:3B|7C)(?=[=+\-@\t\r])")
+
+
+class WrongFile(program.Failed):
+    """Why nothing is taken of a file of a person's."""
 
 
 def octets_of(text):
@@ -119,8 +123,8 @@ def text_of_cell(field):
 
 
 def records_in(path, columns, one, marks=","):
-    """What `one` makes of each record of a CSV file of a person's, which it gets by column. Nothing
-    is taken of a file of which a part is wrong: ValueError says which.
+    """What `one` makes of each record of a CSV file of a person's, which it gets by column, or the
+    ValueError that says why not. Nothing is taken of a file of which a part is wrong.
     """
     try:
         with open(path, encoding="utf-8-sig", errors="surrogateescape", newline="") as file:
@@ -129,10 +133,10 @@ def records_in(path, columns, one, marks=","):
         header, *rows = [it for it in csv.reader(io.StringIO(text, newline=""), delimiter=mark)
                          if it] or [[]]
     except (OSError, csv.Error) as why:
-        raise ValueError(f"cannot read {path}: {getattr(why, 'strerror', None) or why}") from None
+        raise WrongFile(f"cannot read {path}: {getattr(why, 'strerror', None) or why}") from None
     if any(header.count(it) != 1 for it in columns):
-        raise ValueError(f"the header of {path} is `{','.join(header)[:200]}`, and is to have "
-                         f"{','.join(columns)}, each once")
+        raise WrongFile(f"the header of {path} is `{','.join(header)[:200]}`, and is to have "
+                        f"{','.join(columns)}, each once")
     found, faults = [], []
     for number, row in enumerate(rows, 2):
         try:
@@ -142,5 +146,5 @@ def records_in(path, columns, one, marks=","):
         except ValueError as why:
             faults.append(f"record {number}: {why}")
     if faults:
-        raise ValueError("\n".join([f"{path} is not taken:", *faults[:20]]))
+        raise WrongFile("\n".join([f"{path} is not taken:", *faults[:20]]))
     return found

@@ -32,6 +32,7 @@ import tomllib
 
 from radacctl import files, names, plans, program
 from radacctl import money as moneys
+from radacctl.money import Wrong
 
 FILE = "/etc/radacctd-packages/packages.toml"
 # What the front desk's page reads of it.
@@ -51,10 +52,6 @@ MEMBERS = {
 }  # fmt: skip
 NEEDED = ("name", "price", "credit", "plan")
 SLOW = {it: MEMBERS[it] for it in ("plan", "down", "up", "reply")}
-
-
-class Wrong(Exception):
-    """Which member of the file is wrong, and why."""
 
 
 def need(holds, what):
@@ -275,10 +272,7 @@ def for_pages(known, now, plans=None):
 
 def read(path=FILE, settings=moneys.SETTINGS):
     """The packages of the site, and its money."""
-    try:
-        money = moneys.of_site(settings)
-    except (OSError, ValueError) as why:
-        raise Wrong(f"the site's money: {why}") from None
+    money = moneys.of_site(settings)
     try:
         with open(path, encoding="utf-8") as file:
             return packages_of(file.read(), money), money

@@ -8,6 +8,19 @@ import sys
 NAME = "radacctl"
 
 
+class Failed(Exception):
+    """Why not all was done. Whoever gave the command is told so, and it ends with the status."""
+
+    status = 1
+
+
+def reason(fault):
+    """What a person reads of a fault: of one of the system's the file, and no number."""
+    if isinstance(fault, OSError) and fault.strerror:
+        return ": ".join(str(it) for it in (fault.filename, fault.strerror) if it)
+    return str(fault)
+
+
 def say(text):
     print(f"{NAME}: {text}", file=sys.stderr, flush=True)
 
@@ -47,3 +60,10 @@ def parser(text):
     """A parser whose help is this text. No option may be cut short: a later one might be meant."""
     how = {"formatter_class": argparse.RawDescriptionHelpFormatter, "allow_abbrev": False}
     return argparse.ArgumentParser(prog=NAME, description=text, **how)
+
+
+def options(it, metavar, **usual):
+    """Adds options with a value, which is of the kind that it has unless it is given."""
+    for name, value in usual.items():
+        kind = str if value is None else type(value)
+        it.add_argument("--" + name.replace("_", "-"), default=value, metavar=metavar, type=kind)

@@ -7,7 +7,7 @@ import os
 import signal
 import sqlite3
 
-from radacctl.program import say
+from radacctl.program import Failed, say
 
 # The tables that `init` fills, and those that are copied.
 FILLED = ("meta", "price_plan", "plan_count")
@@ -21,7 +21,7 @@ SUM_AT, SUM_OCTETS = 20, 8
 PARENT_DEATH_SIGNAL = 1
 
 
-class Refused(Exception):
+class Refused(Failed):
     """Why the book stays as it is."""
 
 

@@ -10,7 +10,7 @@ import os
 import re
 import time
 
-from radacctl import files, names, plans
+from radacctl import files, names, plans, program
 from radacctl.names import octets_of, shown
 
 SHARDS = [f"s{digit}" for digit in "0123456789abcdef"]
@@ -23,7 +23,7 @@ TABLE = "/etc/radacctd-shards.csv"
 OLD = 60
 
 
-class Wrong(Exception):
+class Wrong(program.Failed):
     """Why nothing was done, or not all."""
 
 

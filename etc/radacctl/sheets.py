@@ -13,6 +13,8 @@ import subprocess
 import sys
 import unicodedata
 
+from radacctl import program
+
 # Of a sheet, in points: 3 by 8 vouchers of 180 by 98 on A4, with so much for a text.
 LEFT, TOP = 27, 812
 COLUMNS, ROWS, ACROSS, DOWN, WIDEST = 3, 8, 180, 98, 108
@@ -24,7 +26,7 @@ OTHERS = {
 }
 
 
-class Fault(Exception):
+class Fault(program.Failed):
     """Why there is no sheet, or no card."""
 
 

@@ -23,7 +23,7 @@ import stat
 import time
 import zlib
 
-from radacctl import files, names
+from radacctl import files, names, program
 
 FOLDER = "/var/lib/radacctd-vouchers"
 SECOND = "/var/lib/radacctd-withdrawn/withdrawn.csv"
@@ -44,7 +44,7 @@ State = collections.namedtuple("State", "account desks taken")
 FREE = State(None, (), frozenset())
 
 
-class Fault(Exception):
+class Fault(program.Failed):
     """Why the stock cannot be used. It names no code and no key."""
 
 
@@ -100,10 +100,11 @@ def whole_lines(path, header, may_be_old=False):
     return b""
 
 
-def rows_in(path, header, count):
-    """The rows of a log of ours that have so many fields."""
+def rows_in(path, header):
+    """The rows of a log of ours that have as many fields as its header."""
     text = whole_lines(path, header).decode("ascii", "replace")
-    return [it for it in csv.reader(io.StringIO(text, newline="")) if len(it) == count]
+    rows = csv.reader(io.StringIO(text, newline=""))
+    return [list(map(names.text_of_cell, it)) for it in rows if len(it) == header.count(b",") + 1]
 
 
 def stock_lines(path):
@@ -131,8 +132,7 @@ def is_withdrawn(paths, code):
 
 def withdrawn_in(path):
     """The moment and the sheet of each code of a log."""
-    rows = rows_in(path, WITHDRAWN_HEADER, 3)
-    return {row[1]: (row[0], names.text_of_cell(row[2])) for row in rows}
+    return {code: (moment, sheet) for moment, code, sheet in rows_in(path, WITHDRAWN_HEADER)}
 
 
 def lines_of(rows):
@@ -144,24 +144,27 @@ def lines_of(rows):
 
 
 @contextlib.contextmanager
-def locked(folder, patience=PATIENCE):
-    """The stock's folder, which one run has at a time: to change it, or to give a code."""
+def locked(path, patience=PATIENCE, way=os.O_RDONLY | os.O_DIRECTORY):
+    """A file or a folder that one run has at a time, as that of the stock: to change what is in it,
+    or to give a code.
+    """
     try:
-        handle = os.open(folder, os.O_RDONLY | os.O_DIRECTORY | os.O_CLOEXEC)
+        handle = os.open(path, way | os.O_CLOEXEC, 0o600)
     except OSError as fault:
-        raise fault_of("open the folder", folder, fault) from None
+        raise fault_of("open", path, fault) from None
     try:
-        wait_for(lambda: fcntl.flock(handle, fcntl.LOCK_EX | fcntl.LOCK_NB), folder, patience)
+        wait_for(handle, path, patience)
         yield
     finally:
         os.close(handle)
 
 
-def wait_for(lock, what, patience):
+def wait_for(handle, what, patience, lock=fcntl.flock, *part):
+    """Waits until this process has the lock of an open file, or of a part of it."""
     end = time.monotonic() + patience
     while True:
         try:
-            return lock()
+            return lock(handle, fcntl.LOCK_EX | fcntl.LOCK_NB, *part)
         except (BlockingIOError, PermissionError):
             if time.monotonic() > end:
                 raise Fault(f"{what}: another run has had it for {patience} seconds") from None
@@ -202,7 +205,7 @@ class Log:
             fcntl.flock(self.handle, fcntl.LOCK_UN)
 
     def lock(self):
-        wait_for(lambda: fcntl.flock(self.handle, fcntl.LOCK_EX | fcntl.LOCK_NB), self.path, PATIENCE)
+        wait_for(self.handle, self.path, PATIENCE)
 
     def add_alone(self, octets):
         whole = self.end()
@@ -224,6 +227,12 @@ class Log:
 
     def close(self):
         os.close(self.handle)
+
+
+def add_rows(path, header, rows):
+    """Adds rows to a log; they are on the disk, or it is a fault."""
+    with contextlib.closing(Log(path, header)) as log:
+        log.add(lines_of(rows))
 
 
 def events_in(text, code=None):
@@ -267,8 +276,7 @@ class Given(Log):
     def turn(self, code, patience=PATIENCE):
         """The right to a code. Behind the end of the file an octet stands for it."""
         place = (1 << 40) + zlib.crc32(code.encode())
-        lock = lambda: fcntl.lockf(self.handle, fcntl.LOCK_EX | fcntl.LOCK_NB, 1, place)
-        wait_for(lock, self.path, patience)
+        wait_for(self.handle, self.path, patience, fcntl.lockf, 1, place)
         try:
             yield
         finally:

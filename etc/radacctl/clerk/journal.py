@@ -21,22 +21,21 @@ def spelled(text):
 
 
 def plain(field):
-    return names.octets_of(names.text_of_cell(field)).decode("utf-8", "surrogateescape")
+    return names.octets_of(field).decode("utf-8", "surrogateescape")
 
 
 class Line:
     """One line: the act of a number."""
 
     def __init__(self, row):
-        self.moment, self.account = int(row[0]), names.text_of_cell(row[4])
+        self.moment, self.account = int(row[0]), row[4]
         self.cashier, self.act, self.number, self.what, self.state = (
             plain(row[it]) for it in (1, 2, 3, 5, 6))
 
 
 def lines_in(path=None):
     """The whole lines of the journal; none if there is no file."""
-    rows = stock.rows_in(path or FILE, HEADER, 7)
-    return [Line(row) for row in rows if row[0].isdigit()]
+    return [Line(row) for row in stock.rows_in(path or FILE, HEADER) if row[0].isdigit()]
 
 
 class Journal(stock.Log):

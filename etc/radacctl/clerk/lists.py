@@ -96,18 +96,16 @@ def corrections(begin, end):
 
 def debits(path=None):
     """The rows of the journal of debits, which is read without its lock: a line is whole or not."""
-    rows = stock.rows_in(path or books.FILE, books.HEADER, 5)
-    return [[names.text_of_cell(it) for it in row] for row in rows if row[0].isdigit()]
+    return [row for row in stock.rows_in(path or books.FILE, books.HEADER) if row[0].isdigit()]
 
 
 def codes():
     """Codes that log in and sheets of vouchers that were withdrawn, the newest first."""
     sheets = dict(sold.store().read("SELECT account, sheet FROM login WHERE digest IS NOT NULL"))
     found = []
-    for row in stock.rows_in(logins.LOG, logins.LOG_HEADER, 3):
-        if row[2] == logins.WITHDRAWN and row[0].isdigit():
-            account = names.octets_of(names.text_of_cell(row[1]))
-            found.append((int(row[0]), names.shown(account), sheets.get(account, ""), 1))
+    for moment, account, state in stock.rows_in(logins.LOG, logins.LOG_HEADER):
+        if state == logins.WITHDRAWN and moment.isdigit():
+            found.append((int(moment), account, sheets.get(names.octets_of(account), ""), 1))
     vouchers = {}
     for moment, sheet in stock.withdrawn_in(stock.SECOND).values():
         had = vouchers.setdefault(sheet, [0, 0])

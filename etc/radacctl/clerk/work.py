@@ -54,7 +54,7 @@ def answer_to(who, asked, now, later):
             return listed(asked, now)
         with guest.locked(TURN), contextlib.closing(journal.Journal()) as notes:
             return Act(who, asked, now, notes, found[limit], later).do()
-    except (desks.WrongKey, guest.NotMade, logins.Fault, stock.Fault, site.Missing, OSError) as why:
+    except (program.Failed, site.Missing, OSError) as why:
         program.say(why)
         found = (409, "no key") if isinstance(why, guest.NoKey) else (503, "away")
         raise Refused(*found) from None
@@ -148,7 +148,7 @@ class Act:
             raise Refused(409, "keys full")
         package, _ = sold.found_package(self.asked["package"])
         account, _, is_sold = guest.make(
-            store, own, self.asked["name"], package, site_money, guest.url_of(own),
+            store, own, self.asked["name"], package, site_money, cards.address(own.url),
             note=lambda account: self.note(account, journal.BEGUN))
         if not is_sold:
             raise Refused(503, "away")
@@ -318,7 +318,7 @@ def card_of(store, account):
     tokens = [it["token"] for it in keys.config_in(own.config).get("key", [])
               if keys.is_guests(it) and it["account"] == account]
     token, wifi = next(iter(tokens), None), packages.wifi()
-    texts = guest.codes_of(wifi, account, password, token, guest.url_of(own))
+    texts = guest.codes_of(wifi, account, password, token, cards.address(own.url))
     return {
         "account": account, "password": password, "house": cards.house(),
         "wifi": wifi["name"] if wifi else "", "title": terms["title"], "price": terms["price"],

@@ -27,11 +27,9 @@ import os
 import re
 import time
 
-from radacctl import codes, debits, files, names, program, site, stock
-from radacctl.commands import debit
-from radacctl.commands import packages as sold
-from radacctl.commands import sell as sells
-from radacctl.program import fail, say
+from radacctl import codes, debits, files, money as moneys, names, program, site, stock
+from radacctl.commands import debit, sell as sells
+from radacctl.program import say
 
 STOPPED = "stopped; give the same again: nothing is credited or taken twice"
 MONTH = re.compile(r"20[0-9]{2}-(?:0[1-9]|1[0-2])")
@@ -71,9 +69,9 @@ class Notes:
     def __init__(self, path):
         files.make_folder(os.path.dirname(path))
         self.log, self.least = stock.Log(path, NOTES_HEADER), {}
-        for row in stock.rows_in(path, NOTES_HEADER, 4):
-            if row[3].isdigit():
-                self.keep(row[1], int(row[3]))
+        for _, number, _, left in stock.rows_in(path, NOTES_HEADER):
+            if left.isdigit():
+                self.keep(number, int(left))
 
     def keep(self, number, left):
         self.least[number] = min(left, self.least.get(number, left))
@@ -155,8 +153,7 @@ def parser():
     it.add_argument("--sum")
     it.add_argument("--lapse", action="store_true")
     it.add_argument("--dry-run", action="store_true")
-    it.add_argument("--balances", default=site.BALANCES, metavar="FILE")
-    it.add_argument("--notes", default=NOTES, metavar="FILE")
+    program.options(it, "FILE", balances=site.BALANCES, notes=NOTES)
     sells.add_desk(it, 60)
     debit.add_to(it)
     return it
@@ -168,11 +165,8 @@ def main(words):
     if not MONTH.fullmatch(words.month):
         it.error("--month is as 2026-12")
     os.umask(0o077)
-    money = sold.site_money()
+    money = moneys.of_site()
     total = money.units(words.sum) if words.sum is not None else None
     if words.sum is not None and total is None:
         it.error(f"--sum is a sum as {money.plain(500)}")
-    try:
-        return allow(words, rows_of(words.list, words.month, total, money), money)
-    except (debits.Refused, stock.Fault, site.Missing, ValueError, OSError) as why:
-        return fail(why)
+    return allow(words, rows_of(words.list, words.month, total, money), money)

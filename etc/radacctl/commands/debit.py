@@ -35,11 +35,12 @@ It ends with 0 if the server answered, with 1 if a debit was refused and not sen
 command line, and with 3 if there was no answer: then give the same debit, or file, again.
 """
 
+import argparse
 import os
 import re
 import time
 
-from radacctl import debits, desk, money, names, program, site, stock
+from radacctl import debits, desk, money, names, program, site
 from radacctl.doctor import look
 from radacctl.names import shown
 
@@ -56,10 +57,7 @@ def debits_of(path):
             raise ValueError(f"the account `{shown(debit[0])}` is not taken from a file: {why}")
         return debit
 
-    try:
-        return names.records_in(path, FILE_HEADER, one)
-    except ValueError as why:
-        raise debits.Refused(why) from None
+    return names.records_in(path, FILE_HEADER, one)
 
 
 def take_all(books, found):
@@ -107,13 +105,10 @@ def server_of(path):
 
 def parser():
     it = program.parser(__doc__)
-    it.add_argument("--config", default=site.CONFIG, metavar="FILE")
-    it.add_argument("--db", default=site.BOOK, metavar="BOOK")
-    it.add_argument("--secret-file", default=site.BOOKS_SECRET, metavar="FILE")
+    add_files(it)
     host, port = server_of(debits.DEFAULTS)
-    it.add_argument("--host", default=host, metavar="A.B.C.D")
-    it.add_argument("--port", type=int, default=port)
-    it.add_argument("--journal", default=debits.FILE, metavar="FILE")
+    program.options(it, "A.B.C.D", host=host)
+    program.options(it, "PORT", port=port)
     it.add_argument("--file", metavar="DEBITS")
     it.add_argument("--list", action="store_true")
     for name in ("account", "sum", "number"):
@@ -121,20 +116,26 @@ def parser():
     return it
 
 
+def add_files(it):
+    """The options of a debit that name files."""
+    program.options(it, "FILE", config=site.CONFIG, secret_file=site.BOOKS_SECRET,
+                    journal=debits.FILE)
+    program.options(it, "BOOK", db=site.BOOK)
+
+
 def add_to(it):
-    """The options of a debit, for a command that gives some."""
-    usual = parser()
-    for name in ("config", "db", "secret-file", "journal"):
-        it.add_argument(f"--{name}", default=usual.get_default(name.replace("-", "_")))
-    it.add_argument("--debit-port", metavar="PORT")
+    """The options of a debit, for a command that gives some beside sales."""
+    add_files(it)
+    it.add_argument("--debit-port", type=int, metavar="PORT")
 
 
 def words_of(words=None):
-    """The command line of a debit, by these options of another command or as it is usual."""
-    more = [] if words is None else [
-        "--config", words.config, "--db", words.db, "--secret-file", words.secret_file,
-        "--journal", words.journal, *(["--port", words.debit_port] if words.debit_port else [])]
-    return parser().parse_args([*more, "--list"])
+    """The usual options of a debit, or those among a command's, whose host and port are a desk's."""
+    usual = parser().parse_args(["--list"])
+    if words is None:
+        return usual
+    port = words.debit_port or usual.port
+    return argparse.Namespace(**{**vars(words), "host": usual.host, "port": port})
 
 
 def parsed(words):
@@ -165,20 +166,13 @@ def debit_of(account, total, number):
 
 def main(words):
     words = parsed(words)
-    try:
-        if words.list:
-            return list_debits(words.journal)
-        if words.file is not None:
-            found = debits_of(words.file)
-            return take_all(debits.Books(words), found)
-        if why := names.why_not(words.debit[0]):
-            account = shown(words.debit[0])
-            program.say(f"the account `{account}` is one that could not log in: {why}")
-        debits.Books(words).take(*words.debit)
-        return 0
-    except debits.NoAnswer as why:
-        program.say(why)
-        return 3
-    except (debits.Refused, stock.Fault, site.Missing, OSError) as why:
-        program.say(why)
-        return 1
+    if words.list:
+        return list_debits(words.journal)
+    if words.file is not None:
+        found = debits_of(words.file)
+        return take_all(debits.Books(words), found)
+    if why := names.why_not(words.debit[0]):
+        account = shown(words.debit[0])
+        program.say(f"the account `{account}` is one that could not log in: {why}")
+    debits.Books(words).take(*words.debit)
+    return 0

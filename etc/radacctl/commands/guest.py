@@ -27,7 +27,6 @@ there was no answer: then `radacctl guest list` says what became of it.
 
 import contextlib
 import csv
-import fcntl
 import hashlib
 import html
 import http.client
@@ -56,7 +55,7 @@ CARD = """\
 STYLE = {"title": "Wi-Fi", "margin": 6, "letters": 11, "wide": 92, "code": 32, "space": 1.5}
 
 
-class NotMade(Exception):
+class NotMade(program.Failed):
     """Why there is no guest."""
 
 
@@ -64,15 +63,9 @@ class NoKey(NotMade):
     """The desk takes another key: the same again is as wrong."""
 
 
-@contextlib.contextmanager
 def locked(patience=60):
     """One at a time makes, ends or mends guests."""
-    handle = files.open_lock(LOCK)
-    try:
-        stock.wait_for(lambda: fcntl.flock(handle, fcntl.LOCK_EX | fcntl.LOCK_NB), LOCK, patience)
-        yield
-    finally:
-        os.close(handle)
+    return stock.locked(LOCK, patience, os.O_RDWR | os.O_CREAT | os.O_NOFOLLOW)
 
 
 def slug_of(name):
@@ -107,7 +100,7 @@ def new(words):
     if not is_name(words.name):
         fail("NAME is 1 to 60 characters that can be printed", 2)
     package, site_money = sold.found_package(words.package)
-    url = url_of(words)
+    url = cards.address(words.url)
     with locked():
         logins_store = sold.store()
         mend_all(logins_store, words)
@@ -140,14 +133,6 @@ def make(logins_store, words, name, package, site_money, url, card=None, note=la
         take_back(logins_store, account, guest, words)
         raise
     return account, password, complete(logins_store, account, guest, words)
-
-
-def url_of(words):
-    """The address of the pages, or nothing."""
-    try:
-        return cards.address(words.url)
-    except cards.Fault as why:
-        return fail(why)
 
 
 def insert(logins_store, account, password, package, name):
@@ -369,10 +354,10 @@ def show(words):
 
 def parser():
     it = program.parser(__doc__)
-    it.add_argument("--config", default=site.CONFIG, metavar="FILE")
+    program.options(it, "FILE", config=site.CONFIG)
     sells.add_desk(it, 60)
-    it.add_argument("--url")
-    it.add_argument("--wait", type=int, default=10, metavar="SECONDS")
+    program.options(it, "URL", url=None)
+    program.options(it, "SECONDS", wait=10)
     acts = it.add_subparsers(dest="act", required=True, metavar="new | end | list | mend")
     act = acts.add_parser("new")
     act.add_argument("name", metavar="NAME")
@@ -390,10 +375,4 @@ def main(words):
     if getattr(words, "card", None):
         words.card = os.path.abspath(words.card)
     os.umask(0o077)
-    acts = {"new": new, "end": end, "list": show, "mend": mend}
-    try:
-        return acts[words.act](words)
-    except NotMade as why:
-        fail(why)
-    except (logins.Fault, stock.Fault, site.Missing, OSError) as why:
-        fail(why)
+    return {"new": new, "end": end, "list": show, "mend": mend}[words.act](words)

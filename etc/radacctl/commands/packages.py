@@ -43,7 +43,7 @@ import sys
 import time
 
 from radacctl import codes
-from radacctl import files, lapses, logins, names, packages, plans, program, sheets, site, stock
+from radacctl import files, lapses, logins, names, packages, plans, program, site, stock
 from radacctl.commands import debit, sell as sells
 from radacctl import money as moneys
 from radacctl.program import fail, say
@@ -87,10 +87,7 @@ def key_of(logins_store):
 
 def found_package(name):
     """A package of the file, whose plan is in force, and the site's money."""
-    try:
-        known, money = packages.read()
-    except packages.Wrong as why:
-        return fail(why)
+    known, money = packages.read()
     if name not in known:
         return fail(f"there is no package {name}: {', '.join(known) or 'none is in the file'}")
     if known[name].is_over(time.time()):
@@ -117,11 +114,7 @@ def print_codes(words):
     made = new_codes(words.count, key, logins_store)
     path = os.path.join(words.to, sheet + ".pdf")
     texts = codes.texts_of(package, money, words.name)
-    try:
-        drawn = codes.sheet([(code, account) for code, account, _ in made], texts, words.link)
-        files.make_named(path, drawn)
-    except (sheets.Fault, OSError) as why:
-        fail(why)
+    files.make_named(path, codes.sheet([it[:2] for it in made], texts, words.link))
     now = int(time.time())
     try:
         codes.log([now, sheet, package.name, package.credit, package.price])
@@ -226,15 +219,8 @@ def credit(words, logins_store, found, known):
     if before:
         say(f"{before} of these codes were sold before, here or at the desk's page: nothing was "
             "credited for them")
-    program.show(f"price {site_money().shown(price)}")
+    program.show(f"price {moneys.of_site().shown(price)}")
     return sells.report(outcomes, {}, {"": stop} if stop else {})
-
-
-def site_money():
-    try:
-        return moneys.of_site()
-    except (OSError, ValueError) as why:
-        return fail(f"the site's money: {why}")
 
 
 def withdraw(words):
@@ -282,10 +268,7 @@ def show(words):
     logins_store = store()
     if words.sheet:
         return show_sheet(logins_store, os.path.basename(words.sheet).removesuffix(".pdf"))
-    try:
-        known, money = packages.read()
-    except packages.Wrong as why:
-        fail(why)
+    known, money = packages.read()
     counts = {row[0]: row[1:] for row in logins_store.read(STATES, int(time.time()))}
     for name in dict.fromkeys([*known, *counts]):
         made, live, sold, used, over = (int(it) for it in counts.get(name, (0,) * 5))
@@ -357,7 +340,7 @@ def went_wrong(part):
     except SystemExit:
         # A command of radacctl said why.
         return 1
-    except (logins.Fault, stock.Fault, site.Missing, OSError) as why:
+    except (program.Failed, site.Missing, OSError) as why:
         say(why)
         return 1
     return 0
@@ -420,12 +403,10 @@ def parser():
     acts.add_parser("make")
     acts.add_parser("mend")
     act = acts.add_parser("tick")
-    act.add_argument("--steady", type=int, default=lapses.STEADY, metavar="SECONDS")
-    act.add_argument("--mirror", default=lapses.MIRROR, metavar="FILE")
-    act.add_argument("--lock", default=LOCK, metavar="FILE")
+    program.options(act, "SECONDS", steady=lapses.STEADY, wait=10)
+    program.options(act, "FILE", mirror=lapses.MIRROR, lock=LOCK)
     debit.add_to(act)
     sells.add_desk(act, 5)
-    act.add_argument("--wait", type=int, default=10, metavar="SECONDS")
     return it
 
 
@@ -437,8 +418,4 @@ def main(words):
     os.umask(0o077)
     acts = {"list": show, "print": print_codes, "sell": sell, "withdraw": withdraw, "make": make,
             "mend": mend, "tick": tick}
-    try:
-        return acts[words.act](words)
-    except (logins.Fault, stock.Fault, site.Missing, OSError) as why:
-        say(why)
-        return 1
+    return acts[words.act](words)

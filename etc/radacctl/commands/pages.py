@@ -52,15 +52,12 @@ def parser():
 def main(words):
     words = parser().parse_args(words)
     plans, settings = (os.path.join(words.to, it) for it in ("plans.json", "settings.json"))
-    try:
-        os.makedirs(words.to, mode=0o755, exist_ok=True)
-        link(plans, os.path.abspath(words.plans))
-        if os.path.exists(settings):
-            print(f"{settings} is as it was")
-        else:
-            write(settings, SETTINGS)
-    except OSError as fault:
-        fail(f"{fault.filename or words.to}: {fault.strerror}")
+    os.makedirs(words.to, mode=0o755, exist_ok=True)
+    link(plans, os.path.abspath(words.plans))
+    if os.path.exists(settings):
+        print(f"{settings} is as it was")
+    else:
+        write(settings, SETTINGS)
     if not os.path.exists(words.plans):
         fail(f"{words.plans} is not there yet: radacctd writes it as it starts, and of 16 books "
              "radacctd-shards: journalctl -u radacctd-shards -n 20")

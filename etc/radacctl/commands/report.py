@@ -271,15 +271,12 @@ def cell(value):
 
 def write_all(tables, folder):
     """Writes the same as CSV, into a folder that is not there before."""
-    try:
-        os.mkdir(folder, 0o700)
-        for name, (header, rows) in tables.items():
-            path = os.path.join(folder, f"{name}.csv")
-            with open(path, "x", encoding="utf-8", newline="") as file:
-                writer = csv.writer(file, lineterminator="\n")
-                writer.writerows([header, *(map(cell, row) for row in rows)])
-    except OSError as fault:
-        raise exports.Broken(f"cannot write: {fault}") from None
+    os.mkdir(folder, 0o700)
+    for name, (header, rows) in tables.items():
+        path = os.path.join(folder, f"{name}.csv")
+        with open(path, "x", encoding="utf-8", newline="") as file:
+            writer = csv.writer(file, lineterminator="\n")
+            writer.writerows([header, *(map(cell, row) for row in rows)])
 
 
 def period_of(parser, words):
@@ -299,12 +296,10 @@ def period_of(parser, words):
 
 def parser():
     it = program.parser(__doc__)
-    it.add_argument("--folder", default=f"{site.BACKUPS}/exports", metavar="EXPORTS")
-    it.add_argument("--csv", metavar="FOLDER")
-    it.add_argument("--top", type=int, default=20, metavar="N")
-    it.add_argument("--debit-class", default="debit", metavar="CLASS")
-    it.add_argument("--settings", default=moneys.SETTINGS, metavar="FILE")
-    it.add_argument("--sales", default=sales_log.FILE, metavar="LOG")
+    program.options(it, "FOLDER", folder=f"{site.BACKUPS}/exports", csv=None)
+    program.options(it, "N", top=20)
+    program.options(it, "CLASS", debit_class="debit")
+    program.options(it, "FILE", settings=moneys.SETTINGS, sales=sales_log.FILE)
     it.add_argument("what", choices=["day", "month"])
     it.add_argument("date", nargs="?")
     return it
@@ -314,18 +309,12 @@ def main(words):
     it = parser()
     words = it.parse_args(words)
     title, begin, end = period_of(it, words)
-    try:
-        Money.site = moneys.of_site(words.settings)
-    except (OSError, ValueError) as fault:
-        program.fail(f"cannot read {words.settings}: {fault}")
-    try:
-        first, last = exports.span_of(exports.snapshots_of(words.folder), begin, end)
-        cashiers = {**cashiers_of_guests(), **cashiers_of(words.sales)}
-        report = Report(first, last, words.debit_class, cashiers)
-        tables = tables_of(report)
-        if words.csv:
-            write_all(tables, words.csv)
-    except exports.Broken as fault:
-        program.fail(fault)
+    Money.site = moneys.of_site(words.settings)
+    first, last = exports.span_of(exports.snapshots_of(words.folder), begin, end)
+    cashiers = {**cashiers_of_guests(), **cashiers_of(words.sales)}
+    report = Report(first, last, words.debit_class, cashiers)
+    tables = tables_of(report)
+    if words.csv:
+        write_all(tables, words.csv)
     show(report, tables, title, (begin, end), words.top)
     return 0 if report.is_explained() else 1

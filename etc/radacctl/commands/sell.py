@@ -327,10 +327,7 @@ def logged(words):
 
 
 def print_logged(words):
-    try:
-        known = {it["voucher"] for it in exports.rows_in(words.but, "topups")} if words.but else ()
-    except exports.Broken as why:
-        return program.fail(why)
+    known = {it["voucher"] for it in exports.rows_in(words.but, "topups")} if words.but else ()
     answered, others = logged(words)
     rows = [it for number, it in answered.items() if number not in known]
     for number in sorted(others.difference(known)):
@@ -350,18 +347,15 @@ def day(text):
 
 def add_desk(it, give_up):
     """The options of a sale."""
-    it.add_argument("--key-file", default=desks.CASHIER_KEY, metavar="FILE")
-    it.add_argument("--host", default="127.0.0.1", metavar="A.B.C.D")
-    it.add_argument("--port", type=int, default=8066)
-    it.add_argument("--give-up", type=int, default=give_up, metavar="SECONDS")
+    program.options(it, "FILE", key_file=desks.CASHIER_KEY)
+    program.options(it, "A.B.C.D", host="127.0.0.1")
+    program.options(it, "PORT", port=8066)
+    program.options(it, "SECONDS", give_up=give_up)
 
 
 def key_of(words):
     """The cashier's key by the options of a sale. Of several in the file it is the first one."""
-    try:
-        return desks.keys_in(words.key_file, MOST_KEYS)[0]
-    except desks.WrongKey as why:
-        return program.fail(why)
+    return desks.keys_in(words.key_file, MOST_KEYS)[0]
 
 
 def desk_of(words):
@@ -373,12 +367,10 @@ def parser():
     it = program.parser(__doc__)
     add_desk(it, 600)
     it.add_argument("--in-flight", type=int, default=4, choices=range(1, 17), metavar="N")
-    it.add_argument("--known", metavar="BALANCES")
+    program.options(it, "FILE", known=None, sales=sales_log.FILE, but=None)
     it.add_argument("--dry-run", action="store_true")
     it.add_argument("--logged", action="store_true")
-    it.add_argument("--sales", default=sales_log.FILE, metavar="LOG")
     it.add_argument("--since", type=day, metavar="YYYY-MM-DD")
-    it.add_argument("--but", metavar="TOPUPS")
     return it
 
 

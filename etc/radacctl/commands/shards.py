@@ -36,13 +36,12 @@ gave radacctd-sell no answer. `for`, `debit` and `key` end as their command does
 
 import argparse
 import csv
-import gzip
 import os
 import subprocess
 import sys
 import time
 
-from radacctl import program, shards as books, site
+from radacctl import exports, program, shards as books, site
 from radacctl.commands import sell as sells
 from radacctl.names import octets_of, shown
 
@@ -217,14 +216,11 @@ def check_topups(paths):
     """Looks for a voucher that two books credited."""
     seen, faults = {}, 0
     for path in paths:
-        # radacctd-nightly compresses its exports.
-        opened = gzip.open if path.endswith(".gz") else open
-        with opened(path, "rt", encoding="ascii", newline="") as file:
-            for row in csv.DictReader(file):
-                other = seen.setdefault(row["voucher"], path)
-                if other != path:
-                    faults += 1
-                    print(f"{row['voucher']} is in {other} and {path}", file=sys.stderr)
+        for row in exports.rows_in(path, "topups"):
+            other = seen.setdefault(row["voucher"], path)
+            if other != path:
+                faults += 1
+                print(f"{row['voucher']} is in {other} and {path}", file=sys.stderr)
     print(f"{len(seen)} vouchers; faults {faults}")
     return 1 if faults else 0
 
@@ -249,9 +245,9 @@ def join(words, _table):
 
 def parser():
     top = program.parser(__doc__)
-    top.add_argument("--table", default=books.TABLE, metavar="FILE")
-    top.add_argument("--balances", default="/var/lib/radacctd-balances", metavar="FOLDER")
-    top.add_argument("--counts", default="/var/lib/radacctd-counts", metavar="FOLDER")
+    program.options(top, "FILE", table=books.TABLE)
+    program.options(top, "FOLDER", balances="/var/lib/radacctd-balances",
+                    counts="/var/lib/radacctd-counts")
     acts = top.add_subparsers(dest="act", required=True, metavar="ACT")
     acts.add_parser("of").add_argument("account", nargs="*")
     acts.add_parser("on").add_argument("address")
@@ -294,9 +290,5 @@ WITHOUT_TABLE = ("of", "join", "check")
 
 def main(words):
     words = parsed(words)
-    try:
-        table = None if words.act in WITHOUT_TABLE else books.table_of(words.table)
-        return ACTS[words.act](words, table)
-    except (books.Wrong, OSError, EOFError, ValueError, KeyError, csv.Error) as fault:
-        program.say(fault)
-        return 1
+    table = None if words.act in WITHOUT_TABLE else books.table_of(words.table)
+    return ACTS[words.act](words, table)

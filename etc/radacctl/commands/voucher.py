@@ -34,6 +34,7 @@ withdrawn), and with 2 for a bad command line.
 """
 
 import collections
+import contextlib
 import csv
 import datetime
 import io
@@ -67,8 +68,6 @@ def settings_of(path, is_needed):
     except OSError as fault:
         return fail(f"cannot read {path}, which has the money: {fault.strerror}; "
                     "give radacctl pages")
-    except ValueError as fault:
-        return fail(f"{path} is wrong: {fault}")
 
 
 def confirm(words, question):
@@ -132,11 +131,8 @@ def make(words, settings, money):
     with stocks.locked(os.path.dirname(words.stock)):
         sheet = new_sheet(words.to, {it.sheet for it in rows_of(words.stock)})
     name = os.path.join(words.to, sheet)
-    try:
-        files.make_named(name + ".pdf", sheets.money(codes, texts, url + "/redeem/"))
-        files.make_named(name + ".csv", b"code,sum\n" + stocks.lines_of([it, total] for it in codes))
-    except (sheets.Fault, OSError) as fault:
-        fail(fault)
+    files.make_named(name + ".pdf", sheets.money(codes, texts, url + "/redeem/"))
+    files.make_named(name + ".csv", b"code,sum\n" + stocks.lines_of([it, total] for it in codes))
     add_to_stock(words.stock, codes, total, sheet)
     print(f"{len(codes)} vouchers of {worth}, {together} together: {name}.pdf, {name}.csv")
     return 0
@@ -180,11 +176,8 @@ class Stock:
 
 def redeemed_in(path):
     """The account of each printed code that a book credited, by its export."""
-    try:
-        return {it["voucher"][2:]: it["account"] for it in exports.rows_in(path, "topups")
-                if it["voucher"][:2] == "W-"}
-    except exports.Broken as why:
-        return fail(why)
+    return {it["voucher"][2:]: it["account"] for it in exports.rows_in(path, "topups")
+            if it["voucher"][:2] == "W-"}
 
 
 def codes_in(path):
@@ -196,7 +189,7 @@ def codes_in(path):
 
     try:
         return set(names.records_in(path, ["code"], one, ";,"))
-    except ValueError as why:
+    except names.WrongFile as why:
         return fail(f"{why}\nNothing was withdrawn")
 
 
@@ -217,14 +210,14 @@ def write_logs(stock, codes):
     now = int(time.time())
     for path in stock.logs:
         files.make_folder(os.path.dirname(path), site.REDEEM_USER)
-        lacks = sorted(set(codes) - set(stocks.withdrawn_in(path)))
-        if not lacks:
-            continue
-        log = stocks.Log(path, stocks.WITHDRAWN_HEADER)
-        own(log.handle)
-        rows = [[*stock.withdrawn.get(it, (now, stock.sheet_of(it)))] for it in lacks]
-        log.add(stocks.lines_of([moment, it, sheet] for it, (moment, sheet) in zip(lacks, rows)))
-        log.close()
+        rows = []
+        for code in sorted(set(codes) - set(stocks.withdrawn_in(path))):
+            moment, sheet = stock.withdrawn.get(code, (now, stock.sheet_of(code)))
+            rows.append([moment, code, sheet])
+        if rows:
+            with contextlib.closing(stocks.Log(path, stocks.WITHDRAWN_HEADER)) as log:
+                own(log.handle)
+                log.add(stocks.lines_of(rows))
 
 
 def mend(words):
@@ -298,10 +291,7 @@ def show(words, money):
 
 def parser():
     it = program.parser(__doc__)
-    it.add_argument("--stock", default=STOCK, metavar="FILE")
-    it.add_argument("--second", metavar="FILE")
-    it.add_argument("--settings", default=moneys.SETTINGS, metavar="FILE")
-    it.add_argument("--topups", metavar="FILE")
+    program.options(it, "FILE", stock=STOCK, second=None, settings=moneys.SETTINGS, topups=None)
     it.add_argument("--yes", action="store_true")
     it.add_argument("--count", type=int)
     it.add_argument("--sum")
@@ -340,5 +330,3 @@ def main(words):
     except stocks.Fault as fault:
         cure = "; radacctl setup makes it, or the steps of DESK.md"
         return fail(f"{fault}{'' if os.path.isdir(os.path.dirname(words.stock)) else cure}")
-    except OSError as fault:
-        return fail(f"{fault.filename or words.stock}: {fault.strerror}")
