@@ -696,9 +696,6 @@ class Stores(unittest.TestCase):
         with tempfile.TemporaryDirectory(dir=MEMORY) as folder:
             store = logins.Store(os.path.join(folder, "l.db"))
             store.make(logins.TABLES)
-            with self.assertRaises(logins.Differs):
-                store.run(("INSERT INTO key VALUES (1, 'a')", ()),
-                          ("UPDATE login SET state = 'x'", (), 1))
             with self.assertRaises(logins.Fault):
                 store.run(("INSERT INTO key VALUES (1, 'a')", ()), ("no SQL", ()))
             self.assertEqual(store.read("SELECT count(*) FROM key"), [(0,)])
@@ -810,6 +807,18 @@ class Doctor(unittest.TestCase):
         self.store.run(("DELETE FROM key", ()))
         self.edit("radacctd/packages.conf", logins.settings()["key"], "change-me")
         self.assertEqual(self.found(), {"packages-key"})
+
+    def test_a_package_has_its_attributes_once(self):
+        """Also if two runs wrote it at once, or one of an older version was killed between."""
+        one = packages.packages_of(self.text, MONEY)["week"]
+        number = logins.package_row(self.store, one)
+        rows = self.store.read("SELECT * FROM reply")
+        self.assertEqual(rows, [(number, *it) for it in one.replies])
+        self.assertEqual(logins.package_row(self.store, one), number)
+        self.assertEqual(self.store.read("SELECT * FROM reply"), rows)
+        self.store.run(("DELETE FROM reply", ()))
+        self.assertEqual(logins.package_row(self.store, one), number)
+        self.assertEqual(self.store.read("SELECT * FROM reply"), rows)
 
     def test_what_is_not_finished(self):
         self.store.run(("INSERT INTO lapse VALUES (x'61', 'L', 1, 1, 0)", ()))

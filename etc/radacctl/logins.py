@@ -63,13 +63,12 @@ USES_TABLES = [
     "CREATE TABLE try (source TEXT NOT NULL, station TEXT NOT NULL, count INTEGER NOT NULL, "
     "moment INTEGER NOT NULL, PRIMARY KEY (source, station)) WITHOUT ROWID",
 ]
-# Does statements in one transaction, as the user of the folder: octets are {"hex": ..} in JSON. A
-# statement that says how many rows it is to change undoes all if it changes another number.
+# Does statements in one transaction, as the user of the folder: octets are {"hex": ..} in JSON.
 CHILD = """
 import contextlib, json, os, sqlite3, sys
 
-into = lambda it: bytes.fromhex(it["hex"]) if isinstance(it, dict) else it
-out = lambda it: {"hex": it.hex()} if isinstance(it, bytes) else it
+into = lambda it: bytes.fromhex(it["hex"]) if "hex" in it else it
+out = lambda it: {"hex": it.hex()}
 
 def work(asked):
     path = asked["path"]
@@ -81,18 +80,13 @@ def work(asked):
     with contextlib.closing(sqlite3.connect(f"file:{path}?mode=rw", **how)) as db:
         db.execute("PRAGMA synchronous = FULL")
         db.execute("BEGIN IMMEDIATE" if asked["writes"] else "BEGIN")
-        found = []
-        for sql, values, wanted in asked["statements"]:
-            done = db.execute(sql, [into(it) for it in values])
-            found.append([[out(it) for it in row] for row in done.fetchall()])
-            if wanted is not None and done.rowcount != wanted:
-                return {"differs": done.rowcount}
+        found = [db.execute(sql, values).fetchall() for sql, values in asked["statements"]]
         db.execute("COMMIT")
         return {"rows": found}
 
 def answer(line):
     try:
-        return json.dumps(work(json.loads(line)))
+        return json.dumps(work(json.loads(line, object_hook=into)), default=out)
     except Exception as why:
         return json.dumps({"fault": str(why)})
 """
@@ -106,10 +100,6 @@ LOST = re.compile("no such table|not a database|malformed|no such column")
 
 class Fault(program.Failed):
     """Why a database cannot be read or written."""
-
-
-class Differs(Fault):
-    """A statement changed other rows than it was to: somebody else was faster. Nothing is done."""
 
 
 def settings():
@@ -145,8 +135,13 @@ def mark_of(key):
     return hashlib.sha256(f"radacctd packages {key}".encode()).hexdigest()
 
 
-def octets(value):
-    return {"hex": value.hex()} if isinstance(value, bytes) else value
+def out(octets):
+    """What JSON has of octets, and what it had."""
+    return {"hex": octets.hex()}
+
+
+def into(found):
+    return bytes.fromhex(found["hex"]) if "hex" in found else found
 
 
 def is_lost(path, why):
@@ -200,26 +195,18 @@ class Store:
         self.path, self.patience, self.child = path, patience, None
 
     def run(self, *statements, writes=True, make=False):
-        """The rows of each statement, all of one transaction.
-
-        A statement is a text, its values, and how many rows it must change, if that matters.
-        """
+        """The rows of each statement, a text and its values: all of one transaction."""
         asked = {"path": os.path.abspath(self.path), "patience": self.patience, "make": make,
-                 "writes": writes, "statements": [
-                     [sql, [octets(it) for it in values], wanted[0] if wanted else None]
-                     for sql, values, *wanted in statements]}
+                 "writes": writes, "statements": statements}
         self.child = self.child or Child(self.path)
-        line = self.child.ask(json.dumps(asked), self.patience + 60)
+        line = self.child.ask(json.dumps(asked, default=out), self.patience + 60)
         if not line:
             self.child = None
             raise Fault(f"{self.path}: its user's process ended, or did not answer in time")
-        said = json.loads(line)
+        said = json.loads(line, object_hook=into)
         if "fault" in said:
             raise Fault(f"{self.path}: {said['fault']}")
-        if "differs" in said:
-            raise Differs(f"{self.path}: {said['differs']} rows were changed")
-        into = lambda it: bytes.fromhex(it["hex"]) if isinstance(it, dict) else it
-        return [[tuple(into(it) for it in row) for row in rows] for rows in said["rows"]]
+        return [[tuple(row) for row in rows] for rows in said["rows"]]
 
     def read(self, sql, *values):
         return self.run((sql, values), writes=False)[0]
@@ -259,17 +246,14 @@ def give_folder(path):
 
 def package_row(store, package):
     """The number of a package in the database, where it stays as it is now."""
-    found = store.run(
+    terms = package.terms()
+    return store.run(
         ("INSERT INTO package (name, terms) VALUES (?, ?) ON CONFLICT DO NOTHING",
-         (package.name, package.terms())),
-        ("SELECT id FROM package WHERE terms = ?", (package.terms(),)),
-        ("SELECT count(*) FROM reply WHERE package = "
-         "(SELECT id FROM package WHERE terms = ?)", (package.terms(),)))
-    number, count = found[1][0][0], found[2][0][0]
-    if not count and package.replies:
-        store.run(*(("INSERT INTO reply VALUES (?, ?, ?, ?, ?)", (number, *it))
-                           for it in package.replies))
-    return number
+         (package.name, terms)),
+        ("INSERT INTO reply SELECT package.id, value ->> 0, value ->> 1, value ->> 2, value ->> 3 "
+         "FROM package, json_each(?) WHERE terms = ? "
+         "AND package.id NOT IN (SELECT package FROM reply)", (json.dumps(package.replies), terms)),
+        ("SELECT id FROM package WHERE terms = ?", (terms,)))[-1][0][0]
 
 
 def ended_in(path=LOG):
