@@ -37,7 +37,6 @@ did not, or the exports are too few or broken, and with 2 for a bad command line
 
 import collections
 import csv
-import dataclasses
 import datetime
 import os
 
@@ -47,35 +46,11 @@ from radacctl.clerk import journal
 from radacctl.commands import guest
 
 
-@dataclasses.dataclass
-class Used:
-    """What some sessions used between the two exports."""
-
-    sessions: int = 0
-    input: int = 0
-    output: int = 0
-    charged: int = 0
-
-    def add(self, octets_in, octets_out, charged):
-        self.sessions += 1
-        self.input += octets_in
-        self.output += octets_out
-        self.charged += charged
-
-
-@dataclasses.dataclass
-class Account:
-    """The money of an account: after = before + sold - charged - debited + gone."""
-
-    before: int = 0
-    sold: int = 0
-    charged: int = 0
-    debited: int = 0
-    gone: int = 0
-    after: int = 0
-
-    def is_explained(self):
-        return self.after == self.before + self.sold - self.charged - self.debited + self.gone
+SOLD = ["vouchers", "sum"]
+USAGE = ["account", "class", "sessions", "input", "output", "charged"]
+BALANCES = ["account", "before", "sold", "charged", "debited", "gone", "after"]
+# The columns that are no money.
+COUNTED = ("vouchers", "sessions", "input", "output")
 
 
 class Money(int):
@@ -110,58 +85,54 @@ class Report:
     def __init__(self, first, last, debit_class, cashiers):
         self.first, self.last, self.debit_class = first, last, debit_class
         self.cashiers = cashiers
-        self.accounts = collections.defaultdict(Account)
+        # Sums by the columns of their tables: of accounts, of accounts and Classes, of Classes, of
+        # what stands before the first hyphen of a voucher's number, and of cashiers.
+        self.accounts, self.usage, self.plans, self.prefixes, self.sold_by = (
+            collections.defaultdict(collections.Counter) for _ in range(5))
         # Of each account how many sessions are gone, and how many lines have grown.
         self.gone_sessions, self.lines = collections.Counter(), collections.Counter()
-        self.sold_by = collections.defaultdict(lambda: [0, 0])
-        self.usage = collections.defaultdict(Used)
-        self.plans = collections.defaultdict(Used)
-        self.prefixes = collections.defaultdict(lambda: [0, 0])
         self.counts = collections.Counter()
         for what, key_of, add in (("sessions", exports.key_of_session, self.add_session),
                                   ("topups", exports.key_of_voucher, self.add_voucher)):
             for old, new in exports.paired(first.rows(what), last.rows(what), key_of):
                 add(old, new)
         for row in first.rows("balances"):
-            self.accounts[row["account"]].before = int(row["balance"])
+            self.accounts[row["account"]]["before"] = int(row["balance"])
         for row in last.rows("balances"):
-            self.accounts[row["account"]].after = int(row["balance"])
+            self.accounts[row["account"]]["after"] = int(row["balance"])
 
     def add_session(self, old, new):
         if new is None:
             self.gone_sessions[old["account"]] += 1
-            self.accounts[old["account"]].gone += int(old["charged"])
+            self.accounts[old["account"]]["gone"] += int(old["charged"])
             return
-        columns = ("input", "output", "charged")
-        moved = [int(new[it]) - (int(old[it]) if old else 0) for it in columns]
+        moved = {it: int(new[it]) - (int(old[it]) if old else 0) for it in USAGE[3:]}
         account, name = self.accounts[new["account"]], new["class"]
         if exports.is_line(new):
-            account.gone -= moved[2]
-            self.lines[new["account"]] += moved != [0, 0, 0]
+            account["gone"] -= moved["charged"]
+            self.lines[new["account"]] += any(moved.values())
             return
         if name == self.debit_class:
-            account.debited += moved[2]
+            account["debited"] += moved["charged"]
             self.counts["debits"] += old is None
-            self.counts["debited"] += moved[2]
             return
         self.counts["begun"] += old is None
         self.counts["ended"] += new["state"] != "open" and (old is None or old["state"] == "open")
-        self.counts["lowered"] += min(moved) < 0
-        account.charged += moved[2]
-        if old is None or any(moved):
-            self.usage[new["account"], name].add(*moved)
-            self.plans[name].add(*moved)
+        self.counts["lowered"] += min(moved.values()) < 0
+        account["charged"] += moved["charged"]
+        if old is None or any(moved.values()):
+            for found in (self.usage[new["account"], name], self.plans[name]):
+                found.update(moved, sessions=1)
 
     def add_voucher(self, old, new):
         if new is None:
             self.counts["gone vouchers"] += 1
-            self.accounts[old["account"]].gone -= int(old["sum"])
+            self.accounts[old["account"]]["gone"] -= int(old["sum"])
         elif old is None:
-            self.accounts[new["account"]].sold += int(new["sum"])
+            self.accounts[new["account"]]["sold"] += int(new["sum"])
             cashier = self.cashiers.get(new["voucher"], "")
             for found in (self.prefixes[prefix_of(new["voucher"])], self.sold_by[cashier]):
-                found[0] += 1
-                found[1] += int(new["sum"])
+                found.update(vouchers=1, sum=int(new["sum"]))
 
     def notes(self):
         """What a reader is to know besides the figures."""
@@ -174,7 +145,7 @@ class Report:
         if self.counts["lowered"]:
             yield f"{self.counts['lowered']} sessions have less than before: was the book restored?"
         for name, account in sorted(self.accounts.items()):
-            if not account.is_explained():
+            if not is_explained(account):
                 name = names.readable(name)
                 yield f"UNEXPLAINED: the balance of {name} moved otherwise than its entries say"
 
@@ -182,14 +153,20 @@ class Report:
         """How many sessions were carried forward, into how many lines, and how many are gone."""
         carried = gone = 0
         for name, count in self.gone_sessions.items():
-            if self.lines[name] and self.accounts[name].gone == 0:
+            if self.lines[name] and self.accounts[name]["gone"] == 0:
                 carried += count
             else:
                 gone += count
         return carried, sum(self.lines.values()), gone
 
     def is_explained(self):
-        return all(account.is_explained() for account in self.accounts.values())
+        return all(map(is_explained, self.accounts.values()))
+
+
+def is_explained(account):
+    """Whether the balance of an account moved by just what its entries say."""
+    moved = account["sold"] - account["charged"] - account["debited"] + account["gone"]
+    return account["after"] == account["before"] + moved
 
 
 def prefix_of(number):
@@ -219,25 +196,26 @@ def in_money(title):
     return f"{title}, in {Money.site.currency}" if Money.site.currency else title
 
 
-SOLD = ["vouchers", "sum"]
-USAGE = ["account", "class", "sessions", "input", "output", "charged"]
-BALANCES = ["account", "before", "sold", "charged", "debited", "gone", "after"]
+def rows_of(header, found):
+    """A row of each name, or names, with its sums in the order of the header."""
+    rows = []
+    for names_of, sums in sorted(found.items()):
+        cells = [names_of] if isinstance(names_of, str) else [*names_of]
+        sums = [sums[it] if it in COUNTED else Money(sums[it]) for it in header[len(cells) :]]
+        rows.append(cells + sums)
+    return rows
 
 
 def tables_of(report):
     """The header and the rows of each table, by its name. Those who used most octets are first."""
-    used = lambda names, it: [*names, it.sessions, it.input, it.output, Money(it.charged)]
-    usage = [used(names, it) for names, it in sorted(report.usage.items())]
-    sold = lambda found: [[name, count, Money(total)] for name, (count, total) in
-                          sorted(found.items())]
-    return {
-        "usage": (USAGE, sorted(usage, key=lambda row: -(row[3] + row[4]))),
-        "plans": (USAGE[1:], [used([name], it) for name, it in sorted(report.plans.items())]),
-        "vouchers": (["prefix", *SOLD], sold(report.prefixes)),
-        "cashiers": (["cashier", *SOLD], sold(report.sold_by)),
-        "balances": (BALANCES, [[name, *map(Money, dataclasses.astuple(it))]
-                                for name, it in sorted(report.accounts.items())]),
-    }
+    found = {
+        "usage": (USAGE, report.usage), "plans": (USAGE[1:], report.plans),
+        "vouchers": (["prefix", *SOLD], report.prefixes),
+        "cashiers": (["cashier", *SOLD], report.sold_by), "balances": (BALANCES, report.accounts),
+    }  # fmt: skip
+    tables = {name: (header, rows_of(header, sums)) for name, (header, sums) in found.items()}
+    tables["usage"][1].sort(key=lambda row: -(row[3] + row[4]))
+    return tables
 
 
 def show(report, tables, title, dates, top):
