@@ -6,6 +6,7 @@ a database that was put back from a copy, or a second run debits nothing more. A
 over counts only once the clock has been steady for a while: no step of the clock lapses anything.
 """
 
+import contextlib
 import hashlib
 import ipaddress
 import re
@@ -180,18 +181,11 @@ def cut_servers():
         address = freeradius.value(block, "ip(?:v[46])?addr")
         port = freeradius.value(block, "port") or "3799"
         # FreeRADIUS' user may write that file, and is to give root no other words.
-        if is_address(address) and port.isdecimal():
+        with contextlib.suppress(ValueError):
             # As FreeRADIUS spells where a report came from.
-            place = str(ipaddress.ip_address(address))
+            place, port = str(ipaddress.ip_address(address)), str(int(port))
             found.setdefault(place, (port, freeradius.value(block, "secret")))
     return found
-
-
-def is_address(text):
-    try:
-        return bool(ipaddress.ip_address(text))
-    except ValueError:
-        return False
 
 
 def disconnect(store, uses, now, wait, accounts=None):

@@ -29,7 +29,6 @@ import contextlib
 import csv
 import hashlib
 import html
-import http.client
 import json
 import os
 import re
@@ -200,13 +199,13 @@ def complete(logins_store, account, guest, words, is_lost=False):
     back but by the desk's own word that it has no such sale.
     """
     result, is_lost = asked(account, guest["sum"], words, is_lost)
-    if result in (desks.NEW, desks.REPEAT):
+    if result in ("new", "repeat"):
         lapses.sold(logins_store, account.encode(), int(time.time()))
         logins_store.run(("UPDATE login SET state = 'live' WHERE account = ? AND state = 'making'",
                           (account.encode(),)))
         drafts.drop(account)
         return True
-    if not is_lost or result in (desks.DIFFERS, desks.LIMIT):
+    if not is_lost or result in sells.CAUSES.values():
         take_back(logins_store, account, guest, words)
         why = NoKey if result == desks.NO_KEY else NotMade
         raise why(f"the desk did not take the sale: {result}")
@@ -218,23 +217,16 @@ def complete(logins_store, account, guest, words, is_lost=False):
 def asked(account, total, words, is_lost):
     """What the desk said of the sale, and whether a try without an answer may have reached it."""
     try:
-        key = desks.keys_in(words.key_file, sells.MOST_KEYS)[0]
+        desk = sells.desk_of(words)
+        desk.is_lost = is_lost
+        record = sells.Record(1, number_of(account), account.encode(), total)
+        return desk.outcome(record), desk.is_lost
     except desks.WrongKey as why:
         say(why)
         return desks.NO_KEY, is_lost
-    spelled, number = names.for_desk(account.encode()), number_of(account)
-    end = time.monotonic() + words.give_up
-    while True:
-        try:
-            result, *_ = desks.credit((words.host, words.port), key, spelled, total, number)
-            is_lost |= result in (desks.AWAY, desks.STRANGE)
-        except ConnectionRefusedError:
-            result = desks.AWAY
-        except (OSError, http.client.HTTPException):
-            result, is_lost = desks.AWAY, True
-        if result != desks.AWAY or time.monotonic() > end:
-            return result, is_lost
-        time.sleep(1)
+    except sells.Stop as why:
+        say(why.line)
+        return desks.NO_KEY if str(why) == "NoKey" else desks.AWAY, desk.is_lost
 
 
 def take_back(logins_store, account, guest, words):

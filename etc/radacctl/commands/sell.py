@@ -185,6 +185,8 @@ class Desk:
         self.where, self.key, self.give_up = where, key, give_up
         self.lock = threading.Lock()
         self.answered_at, self.is_away = time.monotonic(), False
+        # Whether a try that had no answer of the desk's may have reached it.
+        self.is_lost = False
 
     def outcome(self, record):
         """`new`, `repeat`, or the cause for which it was refused."""
@@ -193,11 +195,13 @@ class Desk:
             try:
                 found, status, body = desks.credit(self.where, self.key, account, record.sum,
                                                    record.voucher)
+                self.is_lost |= found in (desks.AWAY, desks.STRANGE)
                 if found != desks.AWAY:
                     self.told_away(None)
                     return judged(found, status, body)
                 why = f"status {status}"
             except (OSError, http.client.HTTPException) as fault:
+                self.is_lost |= not isinstance(fault, ConnectionRefusedError)
                 why = str(fault) or type(fault).__name__
             self.told_away(why)
             time.sleep(pause)
