@@ -165,7 +165,7 @@ class Pages(unittest.TestCase):
                 if count:
                     self.assertEqual(command.found_package("week")[0].name, "week")
                 else:
-                    self.assertRaises(SystemExit, command.found_package, "week")
+                    self.assertRaises(command.NoPackage, command.found_package, "week")
 
     def test_it_is_written_only_if_it_changed(self):
         self.written()
@@ -402,7 +402,7 @@ class Places(unittest.TestCase):
     def test_only_a_folder_that_was_missing_gets_an_owner(self):
         given = mock.Mock()
         user = mock.Mock(return_value=types.SimpleNamespace(pw_uid=7, pw_gid=8))
-        with mock.patch.object(command.os, "fchown", given), \
+        with mock.patch.object(command.os, "lchown", given), \
                 mock.patch.object(command.os, "getuid", lambda: 0), \
                 mock.patch.object(logins.pwd, "getpwnam", user):
             for name in ("mine.db", "mine.db", "other.db"):

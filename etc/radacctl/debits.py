@@ -142,23 +142,12 @@ def others_of(number):
     return [number.removeprefix(found)] if found else [it + number for it in BY_HAND]
 
 
-def attribute(kind, value):
-    return bytes([kind, len(value) + 2]) + value
-
-
 def request(number, account, total, secret):
     """The signed report (RFC 2866, section 3): a Stop of so many octets from the user."""
-    gigawords, octets = divmod(total, 1 << 32)
-    attributes = b"".join(
-        [
-            attribute(40, STOP.to_bytes(4, "big")),
-            attribute(44, number.encode()),
-            attribute(1, account),
-            attribute(25, CLASS.encode()),
-            attribute(42, octets.to_bytes(4, "big")),
-            attribute(52, gigawords.to_bytes(4, "big")),
-        ]
-    )
+    gigawords, octets = (it.to_bytes(4, "big") for it in divmod(total, 1 << 32))
+    values = {40: STOP.to_bytes(4, "big"), 44: number.encode(), 1: account, 25: CLASS.encode(),
+              42: octets, 52: gigawords}
+    attributes = b"".join(bytes([kind, len(it) + 2]) + it for kind, it in values.items())
     head = bytes([4, os.urandom(1)[0]]) + (20 + len(attributes)).to_bytes(2, "big")
     return head + hashlib.md5(head + bytes(16) + attributes + secret).digest() + attributes
 

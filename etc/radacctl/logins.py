@@ -231,17 +231,11 @@ def own_log():
 
 def give_folder(path):
     """Makes a folder that is missing for FreeRADIUS' user. One that is there stays as it is."""
-    try:
+    with contextlib.suppress(FileExistsError):
         os.mkdir(path, 0o700)
-    except FileExistsError:
-        return
-    handle = os.open(path, files.FOLDER)
-    try:
         if os.getuid() == 0:
             user = pwd.getpwnam(site.RADIUS_USER)
-            os.fchown(handle, user.pw_uid, user.pw_gid)
-    finally:
-        os.close(handle)
+            os.lchown(path, user.pw_uid, user.pw_gid)
 
 
 def package_row(store, package):

@@ -40,12 +40,14 @@ def settings_in(path=SETTINGS):
     return found
 
 
-def of_site(path=None):
-    """The site's money. Without settings sums are in units of the book."""
+def of_site(path=None, units=""):
+    """The site's money. Without settings sums are in units of the book, which may have a name."""
     try:
         found = settings_in(path) if path else settings_in()
     except FileNotFoundError:
-        return Money()
+        return Money(currency=units)
+    except OSError as why:
+        raise Wrong(f"the site's money: {why}") from None
     return Money(found["decimals"], found["currency"])
 
 

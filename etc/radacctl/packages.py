@@ -1,24 +1,5 @@
-"""Packages: what a front desk sells. One file says what each costs, gives, and how long it holds.
-
-    [[package]]
-    name = "week"               # what tools and receipts call it; 1 to 24 of a-z 0-9 -
-    title = "5 GB, 7 days"      # what a card says
-    price = "9.00"              # what a guest pays, in the site's money
-    credit = "5.00"             # what is put on the account, in the same
-    plan = "default"            # the Class by which it is used up
-    devices = 2                 # how many devices may use it at once
-    valid = "7 days"            # minutes, hours or days; begins with the
-    from = "first use"          # first use, or the sale
-    down = 20000                # kbit/s to the guest, and
-    up = 5000                   # from the guest; without them there is no limit
-    slow.down = 512             # once the money is used, in place of the end: a plan that costs
-    slow.up = 128               # nothing, and a speed
-    slow.plan = "slow"
-
-A table [wifi] has the `name` of the network, for cards, and its `security`: open or enterprise.
-In place of `valid` and `from` may be `until = "2026-12-31T12:00"`. A table [package.reply] has
-further attributes of an Access-Accept for a kind of access server, as mikrotik = ["A := b"]; so has
-[package.slow.reply].
+"""Packages: what a front desk sells. One file says what each costs, gives, and how long it holds
+(docs/PACKAGES.md has its members).
 
 A code or a guest keeps the package that it was made with: a change is for those made later.
 """

@@ -1,15 +1,5 @@
-"""Who may do what at the front desk, and how often: /etc/radacctd-clerk/rights.toml.
-
-    guests = ["anna", "bert"]       # who makes guests, finds and ends them
-    corrections = ["anna"]          # who takes sales back
-    operators = ["anna"]            # who has the operator's page
-    guests_an_hour = 60             # how many of each all of them may do in an hour
-    ends_an_hour = 300
-    corrections_an_hour = 20
-    cuts_an_hour = 60
-
-A name is that of a login that nginx verified, or the subject of a certificate. Each change counts
-at once. Without the file nobody may do anything.
+"""Who may do what at the front desk, and how many acts of a kind all of them may do in an hour: a file
+whose members docs/CLERK.md has. Each change counts at once. Without it nobody may do anything.
 """
 
 import tomllib

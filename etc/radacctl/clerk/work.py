@@ -133,20 +133,18 @@ class Act:
 
     def fresh(self, store):
         try:
-            known, site_money = packages.read()
+            package, site_money = sold.found_package(self.asked["package"], self.now)
+        except sold.NoPackage:
+            raise Refused(404, "no such package") from None
         except packages.Wrong as why:
             program.say(why)
             raise Refused(503, "setup") from None
-        it = known.get(self.asked["package"])
-        if it is None or it.is_over(self.now):
-            raise Refused(404, "no such package")
         # What the cashier read out is what is made, or nothing is.
-        if (it.price, it.credit) != (self.asked["price"], self.asked["credit"]):
+        if (package.price, package.credit) != (self.asked["price"], self.asked["credit"]):
             raise Refused(409, "changed")
         own = words()
         if keys.is_full(keys.config_in(own.config)):
             raise Refused(409, "keys full")
-        package, _ = sold.found_package(self.asked["package"])
         account, _, is_sold = guest.make(
             store, own, self.asked["name"], package, site_money, cards.address(own.url),
             note=lambda account: self.note(account, journal.BEGUN))

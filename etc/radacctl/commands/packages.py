@@ -85,13 +85,17 @@ def key_of(logins_store):
     return key
 
 
-def found_package(name):
+class NoPackage(program.Failed):
+    """Why a package is not sold."""
+
+
+def found_package(name, now=None):
     """A package of the file, whose plan is in force, and the site's money."""
     known, money = packages.read()
     if name not in known:
-        return fail(f"there is no package {name}: {', '.join(known) or 'none is in the file'}")
-    if known[name].is_over(time.time()):
-        return fail(f"{name} is over since {known[name].validity().removeprefix('until ')}")
+        raise NoPackage(f"there is no package {name}: {', '.join(known) or 'none is in the file'}")
+    if known[name].is_over(now or time.time()):
+        raise NoPackage(f"{name} is over since {known[name].validity().removeprefix('until ')}")
     force = plans.in_force()
     if force is not None and (why := known[name].plan_missing(force)):
         return fail(f"{why}: {', '.join(force)}")

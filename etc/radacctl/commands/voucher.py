@@ -57,12 +57,8 @@ LIVE, GIVEN, WITHDRAWN, UNANSWERED = "live", "given", "withdrawn", "unanswered"
 Row = collections.namedtuple("Row", "code sum sheet")
 
 
-def settings_of(path, is_needed):
-    """The settings of the pages. Codes are listed and withdrawn also without: then sums are those
-    of the book.
-    """
-    if not is_needed and not os.path.exists(path):
-        return {"currency": "units", "decimals": 0}
+def settings_of(path):
+    """The settings of the pages."""
     try:
         return moneys.settings_in(path)
     except OSError as fault:
@@ -108,8 +104,10 @@ def new_sheet(folder, known):
     return fail(f"too many sheets of {now}")
 
 
-def make(words, settings, money):
+def make(words):
     """Makes a sheet, its CSV, and the codes in the stock."""
+    settings = settings_of(words.settings)
+    money = moneys.of_site(words.settings)
     total = money.units(words.sum)
     if total is None:
         fail(f"SUM is more than 0 and has {money.decimals} decimals at most, as "
@@ -321,12 +319,11 @@ def parsed(words):
 def main(words):
     words = parsed(words)
     os.umask(0o077)
-    settings = settings_of(words.settings, words.count is not None)
-    money = moneys.Money(settings["decimals"], settings["currency"])
     try:
-        if words.withdraw:
-            return withdraw(words, money)
-        return show(words, money) if words.list is not None else make(words, settings, money)
+        if words.count is not None:
+            return make(words)
+        money = moneys.of_site(words.settings, "units")
+        return withdraw(words, money) if words.withdraw else show(words, money)
     except stocks.Fault as fault:
         cure = "; radacctl setup makes it, or the steps of DESK.md"
         return fail(f"{fault}{'' if os.path.isdir(os.path.dirname(words.stock)) else cure}")
