@@ -110,8 +110,3 @@ def keys_in(path, most, may_read=lambda status: False):
         if not TOKEN.fullmatch(line):
             raise WrongKey(f"line {at} of {path} is no key: {TOKEN_RULE}")
     return [line for _, line in named]
-
-
-def key_in(path, may_read=lambda status: False):
-    """The one key of a file."""
-    return keys_in(path, 1, may_read)[0]

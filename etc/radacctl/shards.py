@@ -27,36 +27,22 @@ class Wrong(program.Failed):
     """Why nothing was done, or not all."""
 
 
-def place_of(path, row):
+def place_of(row):
     """The values of a record of the table, each within its bounds."""
-    try:
-        shard, address, radius, desk = row
-        ipaddress.IPv4Address(address)
-        if shard not in SHARDS or not 0 < int(radius) < 65536 or not 0 < int(desk) < 65536:
-            raise ValueError("a book or a port is none")
-    except ValueError as fault:
-        raise Wrong(f"{path}: {','.join(row)}: {fault}") from None
-    return {"shard": shard, "address": address, "radius": int(radius), "desk": int(desk)}
+    ipaddress.IPv4Address(row["address"])
+    ports = {it: int(row[it]) for it in ("radius", "desk")}
+    if row["shard"] not in SHARDS or not all(0 < it < 65536 for it in ports.values()):
+        raise ValueError("a book or a port is none")
+    return {"shard": row["shard"], "address": row["address"], **ports}
 
 
 def table_of(path):
     """Where each book is, if the table has each one once and no place twice."""
-    try:
-        with open(path, encoding="ascii", newline="") as file:
-            header, *rows = [row for row in csv.reader(file) if row] or [[]]
-    except (OSError, ValueError) as fault:
-        raise Wrong(f"cannot read {path}: {fault}") from None
-    if header != HEADER:
-        raise Wrong(f"{path} does not begin with {','.join(HEADER)}")
-    found = {}
-    for row in rows:
-        place = place_of(path, row)
-        if place["shard"] in found:
-            raise Wrong(f"{path} has {place['shard']} twice")
-        found[place["shard"]] = place
-    missing = [it for it in SHARDS if it not in found]
-    if missing:
-        raise Wrong(f"{path} lacks {', '.join(missing)}")
+    places = names.records_in(path, HEADER, place_of)
+    found = {it["shard"]: it for it in places}
+    if sorted(it["shard"] for it in places) != SHARDS:
+        lacks = ", ".join(sorted(set(SHARDS) - set(found))) or "none"
+        raise Wrong(f"{path} is to have each book once: it has {len(places)}, and lacks {lacks}")
     for port in ("radius", "desk"):
         if len({(it["address"], it[port]) for it in found.values()}) < len(SHARDS):
             raise Wrong(f"{path}: two books have one address and port ({port})")
@@ -167,13 +153,8 @@ def join_plans(folder):
                 if all(other.get(it) == row for other in others)}
     for name, text in plans.texts_of(all_have).items():
         path = os.path.join(folder, name)
-        if not os.path.exists(path) or text_of(path) != text:
+        if files.text(path) != text:
             written(path, text, time.time())
-
-
-def text_of(path):
-    with open(path, encoding="utf-8", newline="") as file:
-        return file.read()
 
 
 def join_counts(folder):

@@ -19,7 +19,6 @@ import io
 import os
 import re
 import secrets
-import stat
 import time
 import zlib
 
@@ -81,16 +80,14 @@ def whole_lines(path, header, may_be_old=False):
     A user's file cannot stop the reader or lead it elsewhere: it is no link, and no pipe.
     """
     try:
-        handle = os.open(path, os.O_RDONLY | os.O_NOFOLLOW | os.O_NONBLOCK | os.O_CLOEXEC)
+        with files.regular(None, path) as (file, status):
+            if status.st_size > LARGEST:
+                raise Fault(f"{path} has more than {LARGEST} octets")
+            text = file.read(LARGEST)
     except FileNotFoundError:
         return b""
     except OSError as fault:
-        raise fault_of("read", path, fault) from None
-    with os.fdopen(handle, "rb") as file:
-        found = os.fstat(handle)
-        if not stat.S_ISREG(found.st_mode) or found.st_size > LARGEST:
-            raise Fault(f"{path} is no file, or has more than {LARGEST} octets")
-        text = file.read(LARGEST)
+        raise Fault(f"cannot read {path}: {fault.strerror or fault}") from None
     text = text[: text.rfind(b"\n") + 1]
     for it in (header, OLD_HEADER) if may_be_old else (header,):
         if text.startswith(it):

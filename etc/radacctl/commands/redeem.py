@@ -58,7 +58,7 @@ class Answered(Exception):
         self.status, self.body = status, body
 
 
-class Away(Exception):
+class Away(program.Failed):
     """Why it cannot be said whether the code is redeemed. It has no code and no key."""
 
 
@@ -80,14 +80,6 @@ def asked():
         raise Answered(422, error="bad code")
     # One spelling for each name, so that two requests for it are the same.
     return names.shown(names.octets_of(account)), code
-
-
-def key_of(path):
-    """The cashier's key, which the user who redeems reads by a group."""
-    try:
-        return desks.key_in(path, lambda status: True)
-    except desks.WrongKey as why:
-        raise Away(why) from None
 
 
 def why_of(fault):
@@ -179,15 +171,15 @@ def main(words):
         account, code = asked()
         with contextlib.suppress(OSError):
             os.mkdir(os.path.dirname(GIVEN), 0o700)
-        given = stocks.Given(GIVEN)
+        # The user who redeems reads the cashier's key by a group.
+        given, [key] = stocks.Given(GIVEN), desks.keys_in(KEY, 1, lambda status: True)
         with given.turn(code, TURN):
-            answer = Redeeming(given, key_of(KEY), account, code).redeem()
+            answer = Redeeming(given, key, account, code).redeem()
     except Answered as found:
         answer = found
-    except (stocks.Fault, Away, OSError) as fault:
+    except (program.Failed, OSError) as fault:
         # Standard error goes to the journal of the service.
-        why = f"{fault.strerror}: {fault.filename}" if isinstance(fault, OSError) else fault
-        program.say(why)
+        program.say(program.reason(fault))
         answer = Answered(503, error="away")
     sys.stdout.write(f"Status: {answer.status}\r\nContent-Type: application/json\r\n\r\n")
     sys.stdout.write(json.dumps(answer.body, separators=(",", ":")))
