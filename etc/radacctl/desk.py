@@ -67,7 +67,8 @@ def credit(where, key, account, total, number, **how):
 def ask(where, method, path, key, body=None, patience=30, connect=None, most=1 << 20,
         before=lambda: None):
     """The status and the body that the desk at an address and a port gave. It has `connect` seconds
-    for a connection; `before` runs once it has one, and got nothing yet.
+    for a connection; `before` runs once it has one, and got nothing yet. OSError says why there is
+    no answer, and has no word of what came.
     """
     caller = http.client.HTTPConnection(*where, timeout=connect or patience)
     try:
@@ -77,6 +78,8 @@ def ask(where, method, path, key, body=None, patience=30, connect=None, most=1 <
         caller.request(method, path, body, {"Desk-Key": key, "Connection": "close"})
         response = caller.getresponse()
         return response.status, response.read(most)
+    except http.client.HTTPException as why:
+        raise ConnectionError(type(why).__name__) from None
     finally:
         caller.close()
 

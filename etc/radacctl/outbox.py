@@ -2,7 +2,6 @@
 
 import contextlib
 import csv
-import http.client
 import json
 import os
 import sqlite3
@@ -130,7 +129,7 @@ class Desk:
             raise Away(self.told)
         try:
             return call(self.where, *words, connect=CONNECT, patience=PATIENCE, **how)
-        except (OSError, http.client.HTTPException) as fault:
+        except OSError as fault:
             raise self.away(str(fault) or type(fault).__name__) from None
 
     def back(self):

@@ -4,7 +4,7 @@ whose members docs/CLERK.md has. Each change counts at once. Without it nobody m
 
 import tomllib
 
-from radacctl import files
+from radacctl import files, program
 
 FILE = "/etc/radacctd-clerk/rights.toml"
 GUESTS, CORRECTIONS, OPERATORS = "guests", "corrections", "operators"
@@ -13,7 +13,7 @@ LIMITS = {"guests_an_hour": 60, "ends_an_hour": 300, "corrections_an_hour": 20,
 MOST = 10_000
 
 
-class Wrong(Exception):
+class Wrong(program.Failed):
     """What is wrong with the file."""
 
 

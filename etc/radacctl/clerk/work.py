@@ -7,7 +7,6 @@ journal of the system, and has no password, no key and no code.
 
 import contextlib
 import datetime
-import http.client
 import json
 import os
 import socket
@@ -31,6 +30,13 @@ MOST_FOUND = 20
 CHECK, LONGEST_LIST = "check-", 1 << 26
 
 
+# What is answered in the place of a result, by the fault: what an operator is to mend is told apart.
+FAULTS = (
+    (guest.NoKey, 409, "no key"), (sold.NoPackage, 404, "no such package"),
+    ((rights.Wrong, packages.Wrong, debits.Refused), 503, "setup"), (Exception, 503, "away"),
+)  # fmt: skip
+
+
 def words():
     """The command line of `radacctl guest`, with what a page waits for."""
     return guest.parser().parse_args(["--give-up", str(GIVE_UP), "--wait", str(WAIT), "mend"])
@@ -40,24 +46,19 @@ def answer_to(who, asked, now, later):
     """What the page is answered. What is to be done behind the answer is added to `later`."""
     try:
         found = rights.read()
-    except rights.Wrong as why:
-        program.say(why)
-        raise Refused(503, "setup") from None
-    if asked["act"] == "may":
-        return {it: who in found[it]
-                for it in (rights.GUESTS, rights.CORRECTIONS, rights.OPERATORS)}
-    _, right, limit = forms.ACTS[asked["act"]]
-    if who not in found[right]:
-        raise Refused(403, "not allowed")
-    try:
+        if asked["act"] == "may":
+            return {it: who in found[it]
+                    for it in (rights.GUESTS, rights.CORRECTIONS, rights.OPERATORS)}
+        _, right, limit = forms.ACTS[asked["act"]]
+        if who not in found[right]:
+            raise Refused(403, "not allowed")
         if limit is None:
             return listed(asked, now)
         with guest.locked(TURN), contextlib.closing(journal.Journal()) as notes:
             return Act(who, asked, now, notes, found[limit], later).do()
     except (program.Failed, site.Missing, OSError) as why:
         program.say(why)
-        found = (409, "no key") if isinstance(why, guest.NoKey) else (503, "away")
-        raise Refused(*found) from None
+        raise Refused(*next(it for kind, *it in FAULTS if isinstance(why, kind))) from None
 
 
 def listed(asked, now):
@@ -132,13 +133,7 @@ class Act:
                 "card": card_of(store, had.account) if is_given else None}
 
     def fresh(self, store):
-        try:
-            package, site_money = sold.found_package(self.asked["package"], self.now)
-        except sold.NoPackage:
-            raise Refused(404, "no such package") from None
-        except packages.Wrong as why:
-            program.say(why)
-            raise Refused(503, "setup") from None
+        package, site_money = sold.found_package(self.asked["package"], self.now)
         # What the cashier read out is what is made, or nothing is.
         if (package.price, package.credit) != (self.asked["price"], self.asked["credit"]):
             raise Refused(409, "changed")
@@ -232,7 +227,7 @@ class Act:
 
     def debit_sale(self, account, number, is_new):
         """Debits a sale. Nothing is credited to find out whether the book has it."""
-        books = self.books()
+        books = debits.Books(debit.words_of())
         self.test_journal(books, account, number)
         if is_new:
             self.note(account, journal.BEGUN)
@@ -240,7 +235,11 @@ class Act:
         if found != [self.asked["sum"]]:
             self.note(account, journal.REFUSED)
             raise Refused(*((409, "differs") if found else (404, "no such sale")))
-        self.debit(books, account, number)
+        try:
+            books.take(names.octets_of(account), self.asked["sum"], number)
+        except debits.Refused as why:
+            # The journal, which is locked, refuses nothing of it: its disk may be full.
+            raise debits.NoAnswer(why) from None
         self.done(account)
 
     def test_journal(self, books, account, number):
@@ -251,36 +250,17 @@ class Act:
         if any(map(books.journal.given, debits.others_of(number))):
             raise Refused(409, "taken")
 
-    def books(self):
-        """What sends debits, once configuration, book and secret have what is needed."""
-        try:
-            return debits.Books(debit.words_of())
-        except debits.Refused as why:
-            program.say(why)
-            raise Refused(503, "setup") from None
-
     def sales_of(self, account):
         """What the book has credited to an account, as the guest's page has it."""
         own = words()
         own.config = os.path.realpath(own.config)
         with page_key(own, account) as token:
-            try:
-                status, said = desks.ask((own.host, own.port), "GET", "/me/topups", token, None,
-                                         GIVE_UP, LONGEST_LIST)
-            except (OSError, http.client.HTTPException) as why:
-                raise OSError(f"no answer of the desk: {type(why).__name__}") from None
+            status, said = desks.ask((own.host, own.port), "GET", "/me/topups", token, None,
+                                     patience=GIVE_UP, most=LONGEST_LIST)
         found = desks.object_of(said)
         if status != 200 or found is None:
             raise OSError(f"the desk does not say what {account} was sold: status {status}")
         return found["topups"]
-
-    def debit(self, books, account, number):
-        try:
-            books.take(names.octets_of(account), self.asked["sum"], number)
-        except (debits.Refused, debits.NoAnswer) as why:
-            # The journal, which is locked, refuses nothing of it: its disk may be full.
-            program.say(why)
-            raise Refused(503, "away") from None
 
 
 @contextlib.contextmanager

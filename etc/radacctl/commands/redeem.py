@@ -27,7 +27,6 @@ has no code and no key.
 """
 
 import contextlib
-import http.client
 import json
 import os
 import re
@@ -80,11 +79,6 @@ def asked():
         raise Answered(422, error="bad code")
     # One spelling for each name, so that two requests for it are the same.
     return names.shown(names.octets_of(account)), code
-
-
-def why_of(fault):
-    """A fault in words that are never those of a file, a header or an answer."""
-    return (fault.strerror if isinstance(fault, OSError) else None) or type(fault).__name__
 
 
 def worth(code, state, account):
@@ -142,8 +136,8 @@ class Redeeming:
             return desks.credit(where.rsplit(":", 1), self.key, self.account, total,
                                 "W-" + self.code, connect=CONNECT, patience=PATIENCE, most=4096,
                                 before=self.begin)
-        except (OSError, http.client.HTTPException) as fault:
-            why = why_of(fault)
+        except OSError as fault:
+            why = program.reason(fault)
             raise Away(f"no answer of the desk {where}: {why}; the same is right") from None
 
     def refused(self, where, found, status, said, taken):

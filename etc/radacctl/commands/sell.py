@@ -31,7 +31,6 @@ with 3 if the desk gave no answer for SECONDS, 600 unless given.
 
 import collections
 import csv
-import http.client
 import io
 import sys
 import threading
@@ -200,7 +199,7 @@ class Desk:
                     self.told_away(None)
                     return judged(found, status, body)
                 why = f"status {status}"
-            except (OSError, http.client.HTTPException) as fault:
+            except OSError as fault:
                 self.is_lost |= not isinstance(fault, ConnectionRefusedError)
                 why = str(fault) or type(fault).__name__
             self.told_away(why)

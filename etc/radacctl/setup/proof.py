@@ -5,7 +5,6 @@ nothing after. A run that was killed left something: the next one takes that fir
 """
 
 import contextlib
-import http.client
 import os
 import secrets
 import time
@@ -91,7 +90,7 @@ class Proof:
                 where = ("127.0.0.1", 8067) if self.answers.pair else kind.Book().desk()
                 found, status, _ = desk.credit(where, self.config.keys["cashier"], ACCOUNT, total,
                                                number)
-            except (OSError, http.client.HTTPException) as fault:
+            except OSError as fault:
                 found, status = desk.AWAY, str(fault)
             if found in (desk.NEW, desk.REPEAT):
                 return
