@@ -104,12 +104,10 @@ def keys_in(path, most, may_read=lambda status: False):
     named = [(at, line.strip()) for at, line in enumerate(lines, 1) if line.strip()]
     if not named:
         raise WrongKey(f"{path} has no key: {TOKEN_RULE}")
-    # One key is on the first line.
-    extra = named[most:] if len(named) > most else [it for it in named if most == 1 and it[0] > 1]
-    if extra:
-        at = extra[0][0]
-        raise WrongKey(f"line {at} of {path} is one too many: it has one key on one line")
-    for at, line in named:
+    for count, (at, line) in enumerate(named, 1):
+        # One key is on the first line.
+        if count > most or most == 1 < at:
+            raise WrongKey(f"line {at} of {path} is one too many: it has one key on one line")
         if not TOKEN.fullmatch(line):
             raise WrongKey(f"line {at} of {path} is no key: {TOKEN_RULE}")
     return [line for _, line in named]

@@ -37,8 +37,7 @@ def texts_of(found):
 
 def rows_of(path):
     """The records of a file of plans in force. OSError or ValueError says why it has none."""
-    with open(path, encoding="ascii", newline="") as file:
-        header, *rows = list(csv.reader(file)) or [[]]
+    header, *rows = list(csv.reader(files.text(path).splitlines())) or [[]]
     if header != list(HEADER) or any(len(row) != len(HEADER) for row in rows):
         raise ValueError(f"{path} has no plans")
     return rows
@@ -46,10 +45,10 @@ def rows_of(path):
 
 def in_force(path=None):
     """The plans of a file of plans in force, as texts by their classes; None if it has none."""
-    rows = list(csv.reader(files.text(path or site.PLANS).splitlines()))
-    if not rows or rows[0] != list(HEADER):
+    try:
+        return {row[0]: tuple(row[1:]) for row in rows_of(path or site.PLANS)}
+    except ValueError:
         return None
-    return {row[0]: tuple(row[1:]) for row in rows[1:]}
 
 
 def in_config(config):
