@@ -133,6 +133,20 @@ class Edits(Folder):
             os.remove(f"{self.config}.edit")
         self.assertIn("cannot be read here", said)
 
+    def test_another_order_is_said_and_a_plan_without_a_book_is_asked_about(self):
+        client, plan = CONFIG.split("\n[[plan]]")
+        gold = '\n[[plan]]\nclass = "gold"\nblock = 1\nunit = 1\n'
+        self.write(self.config, CONFIG + gold)
+        self.write(f"{self.folder}/other", f"{client}{gold}\n[[plan]]{plan}")
+        status, said = self.edit(f'cat {self.folder}/other >"$1"')
+        self.assertEqual((status, self.read()), (0, self.read("other")))
+        self.assertIn("in another order", said)
+        for answer, status, unit in (("q", 1, "5"), ("w", 0, "6")):
+            found, said = self.edit('sed -i "s/unit = 5/unit = 6/" "$1"', [answer] * 2)
+            self.assertIn("there is no book", said)
+            self.assertEqual((found, f"unit = {unit}" in self.read()), (status, True))
+            files.remove(f"{self.config}.edit")
+
     def test_the_lines_of_the_server(self):
         for line, wanted in (("config: read again: 2 keys", True), ("x; the old one stays", True),
                              ("config: read", False), ("drop 3", False)):

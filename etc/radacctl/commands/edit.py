@@ -53,9 +53,6 @@ in force. Nothing is answered for about {pause} seconds:
     systemctl start {unit}"""
 
 Rights = collections.namedtuple("Rights", "user group mode")
-# What differs between plans: lines of what is missing or changed, and of what is added; whether the
-# order does; and with whose plans they were compared.
-Differing = collections.namedtuple("Differing", "broken added order by")
 
 
 def octets_of(path):
@@ -124,17 +121,15 @@ def plans_of(octets):
         return None
 
 
-def differing(new, old, before, by):
-    """What differs between plans; `before` had the order that is to stay."""
+def differing(new, old):
+    """What differs between plans: a line for each that is left out or changed, and each that is new."""
     spell = lambda name: ascii(name.decode("utf-8", "backslashreplace"))[1:-1]
     broken = [f'the plan "{spell(it)}" ({shown(old[it])}) is left out' for it in old
               if it not in new]
     broken += [f'the plan "{spell(it)}" was {shown(old[it])}, and is now {shown(new[it])}'
                for it in old if it in new and new[it] != old[it]]
-    added = [f'the plan "{it.decode("utf-8", "replace")}" ({shown(new[it])}) is new' for it in new
-             if it not in old]
-    order = [it for it in new if it in before] != [it for it in before if it in new]
-    return Differing(broken, added, order, by)
+    return broken, [f'the plan "{it.decode("utf-8", "replace")}" ({shown(new[it])}) is new'
+                    for it in new if it not in old]
 
 
 def test_rights(config):
@@ -232,42 +227,40 @@ class Edit:
         self.give_path(self.copy)
         return status == 0
 
-    def compared(self):
-        """The plans of the copy, compared with those of the book, or of the configuration as it
-        was; None if neither can be read.
+    def known_plans(self):
+        """The plans of the book, else of the configuration as it was, and whose they are. They are
+        None if neither can be read.
         """
-        new = plans_of(octets_of(self.copy))
-        if new is None:
-            fail(f"cannot compare the plans; your copy is {self.copy}")
-        before = new if self.plans is None else self.plans
         with contextlib.suppress(OSError, site.Missing):
-            old = plans.of_book(self.words.db)
-            return differing(new, old, before, f"the book {self.words.db}")
-        if self.plans is None:
-            return None
-        if os.path.exists(self.words.db):
+            return plans.of_book(self.words.db), f"the book {self.words.db}"
+        if self.plans is not None and os.path.exists(self.words.db):
             say(f"the plans of {self.words.db} cannot be read here; be root for that")
-        return differing(new, self.plans, before, "the configuration as it was")
+        return self.plans, "the configuration as it was"
 
     def judged(self):
         """What is to become of a copy that is right: w to write, e to edit again, q to quit."""
-        found, has_book = self.compared(), os.path.exists(self.words.db)
-        if found is None:
+        new, has_book = plans_of(octets_of(self.copy)), os.path.exists(self.words.db)
+        if new is None:
+            fail(f"cannot compare the plans; your copy is {self.copy}")
+        old, whose = self.known_plans()
+        if old is None:
             return "w"
-        if found.order:
+        before = self.plans or new
+        if [it for it in new if it in before] != [it for it in before if it in new]:
             say("the plans are in another order: a running server takes that only at its next "
                 "start")
-        if found.broken:
+        broken, added = differing(new, old)
+        if broken:
             say("a plan that a book keeps stays what it is, since its charges were made by it:")
-            tell(found.broken)
+            tell(broken)
             if has_book:
-                say(f"(compared with {found.by}) For other terms add a plan of a new class.")
+                say(f"(compared with {whose}) For other terms add a plan of a new class.")
                 return asked("Edit again (e), or keep the copy and quit (q)? ", "eq")
             say(f"there is no book {self.words.db}. If another book keeps these plans, its server "
                 "won't start.")
-        elif has_book and found.added:
-            say(f"these plans are not in {found.by}:")
-            tell(found.added)
+        elif has_book and added:
+            say(f"these plans are not in {whose}:")
+            tell(added)
             pause = 2 * (os.stat(self.words.db).st_size // OCTETS_A_SECOND + 1)
             print(WAITS.format(pause=pause, unit=server_log.UNIT, config=self.config,
                                book=self.words.db), file=sys.stderr)

@@ -11,6 +11,7 @@ import time
 
 from radacctl import desk, files, freeradius, site
 from radacctl.doctor import kind, look
+from radacctl.doctor.pair import OUTBOX
 from radacctl.setup import alone, front, steps
 
 ACCOUNT = front.TEST_USER
@@ -87,7 +88,7 @@ class Proof:
         while True:
             try:
                 # In a pair the outbox gives a sale to both books.
-                where = ("127.0.0.1", 8067) if self.answers.pair else kind.Book().desk()
+                where = OUTBOX if self.answers.pair else kind.Book().desk()
                 found, status, _ = desk.credit(where, self.config.keys["cashier"], ACCOUNT, total,
                                                number)
             except OSError as fault:

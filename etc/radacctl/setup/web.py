@@ -7,7 +7,8 @@ import shlex
 import tempfile
 
 from radacctl import files, freeradius, money, site, stock
-from radacctl.doctor import look, machine, web as of_web
+from radacctl.doctor import kind, look, machine, web as of_web
+from radacctl.doctor.web import FILTER, FOLDER, JAIL
 from radacctl.setup import clerk, pair, steps
 from radacctl.setup.alone import NOTES, Command, File, Folder, unit, user
 from radacctl.setup.front import is_debians, member
@@ -15,7 +16,7 @@ from radacctl.setup.steps import Fresh, Link, Step, Trial
 
 PACKAGES = ["nginx", "apache2-utils", "openssl", "fail2ban", "nftables", "python3-systemd"]
 CODES = ["fcgiwrap", "qrencode", "python3-reportlab", "fonts-dejavu-core"]
-FOLDER, CONF = "/etc/nginx/radacctd", "/etc/nginx/conf.d/radacctd.conf"
+CONF = kind.NGINX
 CERTIFICATE, PRIVATE_KEY = "/etc/ssl/radacctd.pem", "/etc/ssl/private/radacctd.key"
 PASSWORDS = f"{NOTES}/cashiers.txt"
 TEST = ("nginx", "-t")
@@ -66,8 +67,7 @@ def files_of(answers, config):
     yield Server(CONF, lambda old: server(old or "", answers), 0o644)
 
 
-FILTER = "/etc/fail2ban/filter.d/radacctd.conf"
-JAIL, SSHD = (f"/etc/fail2ban/jail.d/{it}.conf" for it in ("radacctd", "sshd"))
+SSHD = "/etc/fail2ban/jail.d/sshd.conf"
 DEFAULT, OF_PACKAGE = (f"/etc/nginx/sites-{it}/default" for it in ("enabled", "available"))
 
 
