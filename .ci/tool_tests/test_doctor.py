@@ -652,7 +652,7 @@ class Unseen(unittest.TestCase):
             self.assertEqual([it.name for it in found], wanted)
 
     def test_what_waits_is_not_none_if_it_cannot_be_counted(self):
-        with unittest.mock.patch.object(fronts, "owner_of", lambda _: (os.getuid(), os.getgid())):
+        with unittest.mock.patch.object(fronts.shutil, "chown"):
             self.unseen(lambda: fronts.counted().items(), status=1)
 
     def test_a_copy_of_a_day_to_come_is_not_the_last_one(self):

@@ -1,8 +1,8 @@
 """FreeRADIUS: its files and steps, its queue, what was filed, and the mirror of the balances."""
 
 import os
-import pwd
 import re
+import shutil
 import tempfile
 import time
 
@@ -74,9 +74,7 @@ def steps(kind):
     yield from tunnel()
     status, said = look.run(*freeradius.test())
     if status:
-        errors = [it for it in said.splitlines() if "rror" in it or "ailed" in it]
-        line = look.last_line("\n".join(errors) or said)
-        yield Fault("raddb-wrong", f"FreeRADIUS says: {line}",
+        yield Fault("raddb-wrong", f"FreeRADIUS says: {look.last_line(said, 'rror|ailed')}",
                     f"runuser -P -u {site.RADIUS_USER} -- freeradius -CX | tail")
 
 
@@ -146,12 +144,9 @@ def samples():
     """Secrets of the samples, short ones, and files that others may read."""
     yield from open_to_others("mods-enabled", "sql")
     for name in ("settings.conf", "access-servers.conf", "pair.conf"):
-        path = freeradius.path("radacctd", name)
-        if not os.path.exists(path):
-            continue
         if "change-me" in freeradius.text("radacctd", name):
-            yield Fault("sample-value", f"{path} has a secret that begins with change-me",
-                        "replace it: openssl rand -hex 16")
+            yield Fault("sample-value", f"{freeradius.path('radacctd', name)} has a secret that "
+                        "begins with change-me", "replace it: openssl rand -hex 16")
         yield from open_to_others("radacctd", name)
     # All of RadSec have one secret: who may speak is known by a certificate.
     clients = [(name, freeradius.value(block, "secret"))
@@ -296,18 +291,13 @@ def counted():
         inner = os.path.join(folder, "counts")
         os.mkdir(inner)
         try:
-            os.chown(inner, *owner_of(site.RADIUS_USER))
+            shutil.chown(inner, site.RADIUS_USER, site.RADIUS_USER)
         except LookupError:
             return {}
         program = freeradius.path("radacctd", "front-counts")
         words = (program, f"{inner}/prom", MIRROR, site.RADACCT, STATE)
         look.must(*files.as_user(site.RADIUS_USER), *words)
         return look.samples(f"{inner}/prom")
-
-
-def owner_of(user):
-    found = pwd.getpwnam(user)
-    return found.pw_uid, found.pw_gid
 
 
 def mirror(kind):

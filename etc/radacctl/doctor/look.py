@@ -147,6 +147,7 @@ def values_in(path):
     return found
 
 
-def last_line(text):
-    lines = [it.strip() for it in text.splitlines() if it.strip()]
-    return lines[-1] if lines else "it printed nothing"
+def last_line(text, pattern="."):
+    """The last line that has a pattern, or else the last one of all."""
+    lines = [it.strip() for it in text.splitlines() if it.strip()] or ["it printed nothing"]
+    return next((it for it in reversed(lines) if re.search(pattern, it)), lines[-1])

@@ -51,8 +51,7 @@ def lines_of(text):
 def configuration(text):
     status, said = look.run("nginx", "-t")
     if status:
-        errors = [it for it in said.splitlines() if "emerg" in it] or [said]
-        yield Fault("nginx-wrong", f"nginx says: {look.last_line(errors[0])}", "nginx -t")
+        yield Fault("nginx-wrong", f"nginx says: {look.last_line(said, 'emerg')}", "nginx -t")
     if lines_of(text) != lines_of(files.sample("nginx", "radacctd.conf")):
         yield Fault("file-old", f"{kinds.NGINX} is not that of this version, but for your names",
                     f"diff {site.shared('nginx', 'radacctd.conf')} {kinds.NGINX}")
