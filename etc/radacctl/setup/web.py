@@ -44,20 +44,16 @@ def of(answers, config):
     yield from fail2ban(answers)
 
 
-def own(*names):
-    return site.shared("nginx", *names)
-
-
 def files_of(answers, config):
     """What nginx reads."""
     yield Folder(FOLDER)
     for name in ("headers.conf", "to-desk.conf", "desks-one.conf"):
-        yield Link(f"{FOLDER}/{name}", own("radacctd", name))
+        yield Link(f"{FOLDER}/{name}", site.shared("nginx", "radacctd", name))
     if answers.pair:
         yield File(f"{FOLDER}/desks-outbox.conf", pair.desks(answers), 0o644)
     for name in ("login.conf", "own.conf"):
-        own_text = files.sample("nginx", "radacctd", name)
-        yield File(f"{FOLDER}/{name}", lambda old, it=own_text: it if old is None else old, 0o644)
+        sample = files.sample("nginx", "radacctd", name)
+        yield File(f"{FOLDER}/{name}", lambda old, it=sample: it if old is None else old, 0o644)
     key = f'proxy_set_header Desk-Key "{config.keys["cashier"]}";\n'
     yield File(f"{FOLDER}/cashier.conf", key, 0o600)
     for name in answers.cashiers:
@@ -238,7 +234,7 @@ def fail2ban(answers):
     networks = " ".join(["127.0.0.1/8", "::1", *answers.front_desk])
     sample = files.sample("nginx", "fail2ban", "radacctd.jail.conf")
     jail = re.sub(r"(?m)^# ignoreip = .*$", f"ignoreip = {networks}", sample)
-    yield Link(FILTER, own("fail2ban", "radacctd.filter.conf"))
+    yield Link(FILTER, site.shared("nginx", "fail2ban", "radacctd.filter.conf"))
     yield File(JAIL, lambda old: kept(LIMIT, jail, old or ""), 0o644)
     sshd = "[sshd]\nbackend = systemd\n"
     yield File(SSHD, lambda old: old or sshd, 0o644)
