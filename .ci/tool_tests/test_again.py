@@ -269,7 +269,7 @@ class Again(Folder):
         self.patched(web, "OF_PACKAGE", self.path)
         self.put("server { listen 80; }\n")
         known = "fc4c5ae1ccf2e8b1a8e6d0b0e4a9f0b2"
-        self.patched(steps, "given", lambda _: f" {self.path} {known}\n")
+        self.patched(front.look, "run", lambda *_: (0, f" {self.path} {known}\n"))
         self.assertFalse(web.has_debians_page(), "there is none")
         os.symlink("file", web.DEFAULT)
         self.assertFalse(web.has_debians_page(), "it was edited")
@@ -421,6 +421,7 @@ class Again(Folder):
         self.patched(steps, "MARKS", os.path.join(self.folder, "marks"))
         self.patched(steps.look, "properties", lambda *_: {"MainPID": "1", "InvocationID": start})
         self.patched(steps, "given", lambda *_, **__: "")
+        self.patched(steps.look, "run", lambda *_, **__: (0, ""))
         moment = os.lstat(self.folder).st_ctime + begun.get("later", 0)
         self.patched(steps.machine, "begin_of", lambda _: moment)
 

@@ -273,7 +273,7 @@ post-auth {
     def test_a_file_of_debians_gets_the_filter_of_radacctd(self):
         listed = hashlib.md5(self.SITE.encode()).hexdigest()
         for name, is_own in (("/x", True), ("/y", False)):
-            with unittest.mock.patch.object(steps, "given", lambda _: f" /x {listed}\n"):
+            with unittest.mock.patch.object(look, "run", lambda *_, it=listed: (0, f" /x {it}\n")):
                 text = front.default(self.SITE, answers.Answers({"plan": [PLAN]}), name)
             self.assertEqual("radacctd_filter" in text, is_own)
 

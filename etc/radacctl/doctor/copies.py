@@ -72,7 +72,8 @@ def newest(folder, name):
         if status:
             yield Fault("copy-bad", f"{path}: {look.last_line(said)}", NOW)
     if not os.path.exists(f"{folder}/exports/{name}/sessions.csv.gz"):
-        yield Fault("copy-exports", f"{folder}/exports/{name} is missing: no report of that day", NOW)
+        yield Fault("copy-exports", f"{folder}/exports/{name} is missing: no report of that day",
+                    NOW)
 
 
 def database():

@@ -8,7 +8,7 @@ import secrets
 import tomllib
 
 from radacctl import configuration, desk, files, freeradius, names, plans, site
-from radacctl.doctor import copies
+from radacctl.doctor import copies, look
 from radacctl.setup import steps
 from radacctl.setup.steps import Command, File, Folder, Fresh, Step
 
@@ -212,13 +212,8 @@ PROVIDED = {"postgresql-client": "/usr/bin/pg_dump"}
 
 
 def is_installed(name):
-    if os.path.exists(PROVIDED.get(name, "")):
-        return True
-    try:
-        words = ["dpkg-query", "-W", "-f", "${db:Status-Status}", name]
-        return steps.given(words) == "installed"
-    except steps.Failed:
-        return False
+    asked = ("dpkg-query", "-W", "-f", "${db:Status-Status}", name)
+    return os.path.exists(PROVIDED.get(name, "")) or look.run(*asked) == (0, "installed")
 
 
 def user_steps():

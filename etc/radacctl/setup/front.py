@@ -8,6 +8,7 @@ import re
 import secrets
 
 from radacctl import files, freeradius, site
+from radacctl.doctor import look
 from radacctl.setup import packages, pair, sql, steps
 from radacctl.setup.alone import Command, File, Folder, secret, unit
 from radacctl.setup.answers import OTHERS_SECRET
@@ -388,10 +389,7 @@ def inner(old, answers, path=None):
 def is_debians(path, text, package="freeradius-config"):
     """Whether a file is as Debian's package made it: then nothing in it is the site's."""
     found = hashlib.md5(text.encode("utf-8", "surrogateescape")).hexdigest()
-    words = ["dpkg-query", "-W", "-f", "${Conffiles}\n", package]
-    with contextlib.suppress(steps.Failed):
-        return f" {path} {found}" in steps.given(words)
-    return False
+    return f" {path} {found}" in look.run("dpkg-query", "-W", "-f", "${Conffiles}\n", package)[1]
 
 
 def with_login(text, is_new):

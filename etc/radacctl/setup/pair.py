@@ -90,10 +90,7 @@ class Once(File):
         return hashlib.sha256(self.wanted(None)).hexdigest() + "\n"
 
     def is_done(self):
-        try:
-            is_written = files.text(WRITTEN) == self.mark()
-        except steps.Failed:
-            return False
+        is_written = files.text(WRITTEN) == self.mark()
         return is_written and (super().is_done() or not os.path.lexists(self.path))
 
     def do(self):

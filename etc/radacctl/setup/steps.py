@@ -123,11 +123,8 @@ class File:
         return user(self.owner), group(self.group), self.mode or 0o644
 
     def is_done(self):
-        try:
-            old, status = self.found()
-            return old is not None and old == self.wanted(old) and self.has_rights(status)
-        except Failed:
-            return False
+        old, status = self.found()
+        return old is not None and old == self.wanted(old) and self.has_rights(status)
 
     def has_rights(self, status):
         found = status.st_uid, status.st_gid, stat.S_IMODE(status.st_mode)

@@ -249,13 +249,8 @@ class Jail(Fresh):
         super().__init__("let fail2ban watch the pages", "fail2ban.service", [FILTER, JAIL, SSHD])
 
     def is_done(self):
-        if not super().is_done():
-            return False
-        try:
-            steps.given(["fail2ban-client", "status", "radacctd"], seconds=30)
-        except steps.Failed:
-            return False
-        return True
+        words = ("fail2ban-client", "status", "radacctd")
+        return super().is_done() and look.run(*words, seconds=30)[0] == 0
 
     def do(self):
         super().do()
