@@ -122,7 +122,7 @@ def plans_of(octets):
 
 
 def differing(new, old):
-    """What differs between plans: a line for each that is left out or changed, and each that is new."""
+    """Lines of what differs between plans: of those that are left out or changed, and of new ones."""
     spell = lambda name: ascii(name.decode("utf-8", "backslashreplace"))[1:-1]
     broken = [f'the plan "{spell(it)}" ({shown(old[it])}) is left out' for it in old
               if it not in new]

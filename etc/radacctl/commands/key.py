@@ -75,7 +75,8 @@ def new(words):
         has = [names.octets_of(it["account"]) for it in config.get("key", [])
                if keys.is_guests(it)]
         if names.octets_of(account) in has and not words.again:
-            fail(f"{account} has a key: revoke it, or give --again. Is it a former guest's account?")
+            fail(f"{account} has a key: revoke it, or give --again. Is it a former guest's "
+                 "account?")
         return keys.block_of(token, account, until), []
 
     if re.fullmatch(r"(room|zimmer)?[ -]?\d{1,4}", account, re.I):
