@@ -21,18 +21,15 @@ def option_of(words, name, default):
     return default
 
 
-def trusted():
-    """The users whose servers are asked. Any other one would get to know keys."""
-    found = {0, os.geteuid()}
+def is_trusted(process):
+    """Whether a process is, has been and may be again no user but root, the service's and the caller.
+    Any other one would get to know keys.
+    """
+    known = {0, os.geteuid()}
     with contextlib.suppress(KeyError):
-        found.add(pwd.getpwnam(site.USER).pw_uid)
-    return found
-
-
-def users_of(process):
-    """All users that a process is, has been and may be again."""
+        known.add(pwd.getpwnam(site.USER).pw_uid)
     with open(f"/proc/{process}/status", encoding="utf-8", errors="replace") as file:
-        return {int(it) for it in re.search(r"(?m)^Uid:(.*)$", file.read())[1].split()}
+        return {*map(int, re.search(r"(?m)^Uid:(.*)$", file.read())[1].split())} <= known
 
 
 def desk_of(process, path):
@@ -46,7 +43,7 @@ def desk_of(process, path):
     if "serve" not in words or config is None:
         return None
     try:
-        if not users_of(process) <= trusted():
+        if not is_trusted(process):
             return None
         # A container has another root, where the same name is another file.
         if not os.path.samefile(f"/proc/{process}/root", "/"):

@@ -122,16 +122,12 @@ def counts_of(found, lost):
                    for name, about in COUNTS.items())
 
 
-def listed():
-    for name, text in faults.MEANINGS.items():
-        print(f"{faults.gravity(name):8}  {name:18}  {text}")
-    return 0
-
-
 def main(words):
     words = parser().parse_args(words)
     if words.list:
-        return listed()
+        for name, text in faults.MEANINGS.items():
+            print(f"{faults.gravity(name):8}  {name:18}  {text}")
+        return 0
     if os.geteuid() != 0:
         program.fail("be root: what is secret could not be looked at", 4)
     site = kind.Kind()

@@ -192,14 +192,6 @@ def has_copy():
     return any(copies.NAME.fullmatch(it) for it in copies.place()[1])
 
 
-def locked():
-    """One set-up at a time. The lock ends with this process."""
-    handle = files.open_lock(LOCK)
-    if not files.is_locked(handle):
-        program.fail("another set-up is going on")
-    return handle
-
-
 def main(words):
     words = parser().parse_args(words)
     if words.sample:
@@ -215,7 +207,10 @@ def main(words):
             answers.read(words.file) if words.file else answers.asked())
     except answers.Wrong as why:
         program.fail(why, 2)
-    lock = locked()
+    # One set-up at a time. The lock ends with this process.
+    lock = files.open_lock(LOCK)
+    if not files.is_locked(lock):
+        program.fail("another set-up is going on")
     # A copy of FreeRADIUS' folder, secrets and all, that a killed run left.
     shutil.rmtree(steps.TRIAL, ignore_errors=True)
     try:

@@ -92,8 +92,9 @@ def places():
     for pattern in [*PLACES, *by_hand, *named_files(), *also()]:
         for path in sorted(glob.glob(glob.escape(pattern.removesuffix("*")) + "*")
                            if pattern.endswith("*") else [pattern]):
-            path = real_place(path)
-            if path and not any(f"{path}/".startswith(f"{it}/") for it in found):
+            # Without a link above it.
+            path = os.path.join(os.path.realpath(os.path.dirname(path)), os.path.basename(path))
+            if os.path.lexists(path) and not any(f"{path}/".startswith(f"{it}/") for it in found):
                 found.append(path)
     return [it for it in found if ".replaced-" not in it]
 
@@ -109,12 +110,6 @@ def also():
             raise archive.Wrong(f"RADACCTD_ALSO: {path} has more in it than a site's: name what "
                                 "you need")
         yield path
-
-
-def real_place(path):
-    """A path without links above it, or None if nothing is there."""
-    path = os.path.join(os.path.realpath(os.path.dirname(path)), os.path.basename(path))
-    return path if os.path.lexists(path) else None
 
 
 def named_in(path):

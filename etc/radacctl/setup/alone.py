@@ -216,15 +216,6 @@ def is_installed(name):
     return os.path.exists(PROVIDED.get(name, "")) or look.run(*asked) == (0, "installed")
 
 
-def user_steps():
-    """The service's user and folders, if no package made them."""
-    if site.INSTALLED.startswith("/usr/libexec/"):
-        return
-    yield user(site.USER, site.READERS)
-    yield Command("make the folders", lambda: os.path.isdir(os.path.dirname(site.BALANCES)),
-                  "systemd-tmpfiles", "--create", own("tmpfiles.d", site.USER))
-
-
 def own(folder, name):
     """A file of radacctd's for systemd."""
     return os.path.normpath(f"{site.INSTALLED}/../../lib/{folder}/{name}.conf")
@@ -241,7 +232,11 @@ def of(answers, config):
     if not answers.has_front and os.path.lexists(freeradius.path("radacctd", "settings.conf")):
         raise steps.Failed("FreeRADIUS is in front, and the answers have freeradius = false: first "
                            "radacctl setup --remove")
-    yield from user_steps()
+    if not site.INSTALLED.startswith("/usr/libexec/"):
+        # No package made the service's user and folders.
+        yield user(site.USER, site.READERS)
+        yield Command("make the folders", lambda: os.path.isdir(os.path.dirname(site.BALANCES)),
+                      "systemd-tmpfiles", "--create", own("tmpfiles.d", site.USER))
     yield Folder(NOTES, 0o700)
     yield ConfigFile(site.CONFIG, config.wanted, 0o640, of_group=site.USER)
     if answers.has_front or answers.server:
@@ -273,12 +268,9 @@ def put_in_force(book):
         steps.given(["systemctl", "start", "radacctd.service"])
 
 
-def is_running(name):
-    found = steps.given(["systemctl", "show", name, "-p", "ActiveState", "-p", "UnitFileState"])
-    return "ActiveState=active" in found and "UnitFileState=enabled" in found
-
-
 def unit(name):
     """Starts a unit now and with the machine."""
-    return Command(f"start {name}, now and with the machine", lambda: is_running(name),
-                   "systemctl", "enable", "--now", name)
+    wanted = {"ActiveState": "active", "UnitFileState": "enabled"}
+    return Command(f"start {name}, now and with the machine",
+                   lambda: look.properties(name, *wanted) == wanted, "systemctl", "enable", "--now",
+                   name)

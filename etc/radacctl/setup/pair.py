@@ -24,17 +24,13 @@ def own(name):
     return site.shared("pair", name)
 
 
-def test_book():
-    """A book that has sold is not copied by a set-up."""
+def in_front(answers, config):
+    """FreeRADIUS' part: reports go to both books."""
+    # A book that has sold is not copied by a set-up.
     others = set(look.balances()) - {TEST}
     if others and not files.text("/etc/default/radacctd-pair"):
         raise steps.Failed(f"the book has {len(others)} accounts already: make a pair of it by the "
                            "steps of PAIR.md, which copy the book")
-
-
-def in_front(answers, config):
-    """FreeRADIUS' part: reports go to both books."""
-    test_book()
     raddb = freeradius.path
     known = freeradius.value(freeradius.text("radacctd", "pair.conf"), "secret")
     secret = answers.secrets.get("pair") or (known if len(known) >= 16 else None)

@@ -43,16 +43,13 @@ def password(path):
     return found
 
 
-def is_sites_own():
-    """Whether mods-enabled/sql is there, and no set-up made it: it stays as it is."""
-    path = freeradius.path("mods-enabled/sql")
-    return os.path.lexists(path) and (os.path.islink(path) or OURS not in files.text(path))
-
-
 def of(answers):
-    if not is_sites_own():
-        text = MODULE.format(password=password(answers.sql["password_file"]), **answers.sql)
-        yield File(freeradius.path("mods-enabled/sql"), text, 0o640, of_group=site.RADIUS_USER)
+    path = freeradius.path("mods-enabled/sql")
+    # One that no set-up made stays as it is.
+    if os.path.lexists(path) and (os.path.islink(path) or OURS not in files.text(path)):
+        return
+    text = MODULE.format(password=password(answers.sql["password_file"]), **answers.sql)
+    yield File(path, text, 0o640, of_group=site.RADIUS_USER)
 
 
 def without_sql(text):
