@@ -46,7 +46,10 @@ class Digests(unittest.TestCase):
              b"DOM\\nick": "0aa9bba5e9fb22b3f624dd4acd7e4543",
              b"DOM\\rick": "ec383567c082574bc029c4ae757340c4",
              b"DOM\\tom": "60c860d7bb3a72e3618548d79318ceaa",
-             b"a\\101": "712cbef4120e9a5b3372705fd950719d"}
+             b"a\\101": "712cbef4120e9a5b3372705fd950719d",
+             b"CORP\\18923": "1eece7e8e764fef38108f28e1d232648",
+             b"CORP\\000123": "e68074376d624cb2a2a34ff82bf48c54",
+             b"CORP\\900": "563306748ed5a84e62539dedd472806b"}
 
     def test_who_moves_keeps_the_ids_of_open_sessions(self):
         """Else a session that is open then would be charged twice."""
