@@ -307,6 +307,10 @@ class Program(unittest.TestCase):
             self.assertEqual((done.returncode, done.stderr), (0, b"done\n"))
             done = subprocess.run(words, stdout=full, stderr=full, cwd=ROOT)
             self.assertEqual(done.returncode, 0)
+        # A terminal whose letters are not those of a guest's name: the password would be lost.
+        words[-1] = text + "sys.stdout.reconfigure(encoding='latin-1'); program.show('\u0141 pass')"
+        done = subprocess.run(words, stdout=subprocess.DEVNULL, stderr=subprocess.PIPE, cwd=ROOT)
+        self.assertEqual((done.returncode, b" pass\n" in done.stderr), (0, True))
 
     def test_nothing_is_left_next_to_the_package(self):
         self.run_it("sell", "--dry-run")

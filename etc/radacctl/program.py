@@ -45,13 +45,13 @@ def is_yes(question):
 
 
 def show(text):
-    """Prints what is done already, also if it cannot be printed, as on a full disk: then it is said
-    on standard error.
+    """Prints what is done already, also if it cannot be printed, as on a full disk, or on a terminal
+    without its letters: then it is said on standard error.
     """
     for stream in (sys.stdout, sys.stderr):
         try:
             return print(text, file=stream, flush=True)
-        except OSError:
+        except (OSError, UnicodeError):
             # Python would try again at the end, and change the status.
             os.dup2(os.open(os.devnull, os.O_WRONLY), stream.fileno())
 
