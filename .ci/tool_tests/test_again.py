@@ -82,6 +82,13 @@ class Sections(unittest.TestCase):
         found = steps.begun(found, "accounting", "radacctd_accounting")
         self.assertEqual(away.lines_out(found), text)
 
+    def test_a_section_on_one_line_gets_its_word_too(self):
+        """Behind it the word would be no section's, and no report would be queued."""
+        text = "server x {\n\taccounting { detail }\n\tsession { }\n}\n"
+        found = steps.begun(text, "accounting", "radacctd_accounting")
+        self.assertEqual(freeradius.section(found, "accounting").split(),
+                         ["radacctd_accounting", "detail"])
+
     def test_a_database_that_is_written_again_is(self):
         other = {"password_file": "/root/x"}
         for more in ("", "\t-sql\n"):

@@ -333,10 +333,11 @@ def begun(text, section, word):
     """A virtual server whose section begins with a line of a word, unless it has the word."""
     if word in freeradius.section(freeradius.without_comments(text), section).split():
         return text
-    found = re.search(rf"(?m)^[ \t]*{section}[ \t]*\{{[^\n]*\n", text)
+    found = re.search(rf"(?m)^[ \t]*{section}[ \t]*\{{({freeradius.REST}\n)?", text)
     if not found:
         raise Failed(f"a virtual server has no section {section}: docs/FREERADIUS.md, step 6")
-    return f"{text[: found.end()]}\t{word}\n{text[found.end() :]}"
+    line = f"\t{word}\n" if found[1] else f"\n\t{word}\n"
+    return text[: found.end()] + line + text[found.end() :]
 
 
 def wait_until(holds, seconds, why):
