@@ -41,16 +41,24 @@ function onPage(id, lines, redraw) {
 // Money has a space that does not break.
 const isSum = (it) => typeof it === "string" && /^[^ ]*\u00a0[^ ]*$/.test(it);
 
+// A cell has a text or a node; or two texts, the second one below the first.
 function putCell(row, it) {
-  const cell = row.insertCell();
-  cell.append(it);
-  if (isSum(it)) cell.className = "sum";
+  const cell = row.insertCell(), [top, below] = Array.isArray(it) ? it : [it];
+  cell.append(top);
+  if (isSum(top)) cell.className = "sum";
+  if (below) cell.append(Object.assign(document.createElement("div"), { className: "soft", textContent: below }));
 }
 
-// A table that has no lines says so.
-function noneIn(to, columns) {
-  const cell = to.insertRow().insertCell();
-  cell.colSpan = columns;
+// Draws the lines of a list, each with its cells. One that has none says so.
+function fill(id, lines) {
+  $(id).textContent = "";
+  for (const cells of lines) {
+    const row = $(id).insertRow();
+    for (const it of cells) putCell(row, it);
+  }
+  if (lines.length) return;
+  const cell = $(id).insertRow().insertCell();
+  cell.colSpan = $(id).parentElement.tHead.rows[0].cells.length;
   cell.className = "soft";
   cell.textContent = text("none");
 }

@@ -58,6 +58,12 @@ function drawTexts() {
   document.title = $("title").textContent = (settings?.name ? settings.name + ": " : "") + text("title");
 }
 
+// How JSON is sent, in a field that no other site can make a browser send: nginx knows it by `page`.
+const sent = (page, what) => {
+  const headers = { "Content-Type": "application/json", Radacctd: page };
+  return { method: "POST", cache: "no-store", headers, body: JSON.stringify(what) };
+};
+
 // Throws if there is no answer (TypeError), or the file is missing or wrong.
 async function readSettings() {
   const answer = await fetch("/settings.json"), read = answer.ok ? await answer.json() : null;
