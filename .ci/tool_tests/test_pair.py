@@ -15,7 +15,8 @@ from unittest import mock
 from radacctl import desk, outbox, queues
 from tool_tests import script
 
-COMPARE = script("etc", "pair", "radacctd-compare")
+COMPARE, OUTBOX = (script("etc", "pair", it) for it in ("radacctd-compare", "radacctd-outbox"))
+MIRROR = script("etc", "freeradius", "balances-mirror")
 HOUR = 3600
 
 
@@ -194,6 +195,14 @@ class Pair(unittest.TestCase):
             self.assertEqual(len(said), 1)
             self.assertEqual(one.take(sale, None), (outbox.TAKEN, True))
         self.assertEqual(said[1:], ["the desk `own` is back"])
+
+    def test_no_option_is_cut_short(self):
+        for tool, words in ((COMPARE, ["--print", "--quie"]), (OUTBOX, ["--lis"]),
+                            (MIRROR, ["a", "b", "c", "--stat=d"])):
+            said = io.StringIO()
+            with mock.patch("sys.argv", ["x", *words]), contextlib.redirect_stderr(said):
+                self.assertRaises(SystemExit, tool.words_of)
+            self.assertIn(f"unrecognized arguments: {words[-1]}", said.getvalue())
 
     def settle(self, *pairs):
         """What --settle prints and returns if both machines have these balances, turn by turn."""
