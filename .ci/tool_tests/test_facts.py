@@ -257,7 +257,9 @@ class States(unittest.TestCase):
             return file.read()
 
     def test_each_has_its_places(self):
-        written = set(re.findall(r'\bmark\("(\w+)"', self.text("etc", "freeradius", "queue.pl")))
+        writer = self.text("etc", "freeradius", "queue.pl")
+        written = set(re.findall(r'\bmark\("(\w+)"', writer))
+        written.update(re.findall(r'(?m)^    "(\w+)" => \["', writer))
         counted = re.search(r"^STATES = \((.*)\)$", self.text("etc", "freeradius", "front-counts"),
                             re.MULTILINE)[1]
         raised = re.findall(r'radacctd_queue_state\{state=~?"([\w|]+)"\}',

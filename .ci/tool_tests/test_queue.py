@@ -24,9 +24,12 @@ class Queue(Folder):
         super().setUp()
         os.mkdir(os.path.join(self.folder, "queue"))
 
-    def said(self, *words):
-        words = ["perl", "-e", CALL, self.folder, QUEUE, "put", "in=reader-1", *words]
+    def called(self, *words):
+        words = ["perl", "-e", CALL, self.folder, QUEUE, *words]
         return subprocess.run(words, capture_output=True, text=True, check=True).stdout
+
+    def said(self, *words):
+        return self.called("put", "in=reader-1", *words)
 
     def queued(self):
         return [it for _, _, files in os.walk(os.path.join(self.folder, "queue")) for it in files]
@@ -41,6 +44,26 @@ class Queue(Folder):
                 self.assertEqual(self.queued(), [])
         self.assertEqual(self.said(*(f"{name}={it}" for name, it in report.items())), "ok")
         self.assertEqual(len(self.queued()), 1)
+
+    def test_where_each_is_written_and_what_a_fault_says(self):
+        report = ["Acct-Status-Type=00000003", "Acct-Session-Id=4131", "User-Name=616c"]
+        cut = ["from=10.0.0.1", *report[1:]]
+        for folder, state, over, words in (
+                ("queue", "fault", "no report is answered", ["put", "in=", "also=", *report]),
+                ("unsent", "fault", "no report is answered", ["file", *report]),
+                ("cut", "cut", "no session is cut off", ["cut", *cut]),
+                ("cut-coa", "cut", "no session is cut off", ["cut", "to=coa", *cut])):
+            with self.subTest(words[:2]):
+                path = os.path.join(self.folder, folder)
+                self.assertEqual(self.called(*words), "ok")
+                self.assertEqual(len(os.listdir(path)), 1)
+                os.rename(path, path + ".moved")
+                open(path, "w", encoding="ascii").close()
+                why = self.called(*words)
+                self.assertEqual(why, f"{path}: Not a directory")
+                with open(os.path.join(self.folder, f"state.{state}"), encoding="ascii") as file:
+                    self.assertEqual(file.read(), f"{why}: {over} until this is over\n")
+                os.remove(file.name)
 
 
 if __name__ == "__main__":
