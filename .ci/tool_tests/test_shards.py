@@ -281,9 +281,10 @@ class Doctor(unittest.TestCase):
 
     def test_the_check_runs_where_all_balances_are(self):
         for has_front in (True, False):
-            it = mock.Mock(spec=kind.Kind, books=[], has_shards=True, has_front=has_front)
-            it.has_pages = it.has_codes = it.has_clerk = it.has_packages = it.has_pair = False
-            found = kind.Kind.units(it)
+            it = kind.Kind.__new__(kind.Kind)
+            vars(it).update({name: False for name, *_ in kind.PARTS}, books=[], has_shards=True,
+                            has_front=has_front)
+            found = it.units()
             self.assertIn("radacctd-shards.service", found)
             self.assertEqual("radacctd-shards-check.timer" in found, has_front)
 

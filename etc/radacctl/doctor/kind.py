@@ -89,7 +89,7 @@ class Kind:
 
     def units(self):
         """The units that are to run and to start with the machine."""
-        found = [it.unit for it in self.books] + " ".join(Kind.parts(self, 2)).split()
+        found = [it.unit for it in self.books] + " ".join(self.parts(2)).split()
         # The check is only where the balances of all books are.
         if self.has_shards and (self.has_front or self.has_pages):
             found.append("radacctd-shards-check.timer")
