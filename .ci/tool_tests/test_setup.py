@@ -762,7 +762,7 @@ class Proving(unittest.TestCase):
         return it
 
     def run_it(self, it):
-        with mock.patch.object(steps, "given") as given, mock.patch.object(files, "make"):
+        with mock.patch.object(steps, "given") as given, mock.patch.object(files, "replace"):
             with mock.patch.object(files, "sync_folder"), mock.patch.object(files, "remove"):
                 with contextlib.redirect_stdout(io.StringIO()):
                     try:

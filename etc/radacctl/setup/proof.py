@@ -46,9 +46,7 @@ class Proof:
                 self.take_back("what was tried")
             raise
         print(f"all of it is taken back: {ACCOUNT} has 0")
-        files.remove(DONE)
-        files.make(DONE, b"")
-        files.sync_folder(os.path.dirname(DONE))
+        files.replace(DONE, b"")
 
     def try_all(self):
         before = self.balance() or 0
@@ -70,8 +68,8 @@ class Proof:
         """Waits until the balances are newer than now: so they have all that was sold before."""
         begun = time.time()
         is_new = lambda: os.path.exists(site.BALANCES) and os.stat(site.BALANCES).st_mtime > begun
-        why = f"the server does not write {site.BALANCES}: radacctl doctor"
-        steps.wait_until(is_new, PATIENCE, lambda: why)
+        steps.wait_until(is_new, PATIENCE, lambda: (
+            f"the server does not write {site.BALANCES}: radacctl doctor"))
 
     def balance(self):
         return look.balances().get(ACCOUNT.encode())

@@ -68,14 +68,9 @@ class Folder:
         return f"give {self.path} its owner and mode" if is_there else f"make {self.path}"
 
     def is_done(self):
-        try:
-            found = os.lstat(self.path)
-            wanted = (user(self.owner), group(self.group), self.mode)
-        except (OSError, Failed):
-            return False
-        return stat.S_ISDIR(found.st_mode) and wanted == (
-            found.st_uid, found.st_gid, stat.S_IMODE(found.st_mode)
-        )
+        found = os.lstat(self.path)
+        return stat.S_ISDIR(found.st_mode) and (found.st_uid, found.st_gid) == (
+            user(self.owner), group(self.group)) and stat.S_IMODE(found.st_mode) == self.mode
 
     def do(self):
         above, name = os.path.split(self.path)
