@@ -4,6 +4,8 @@ import contextlib
 import io
 import os
 import stat
+import threading
+import time
 import unittest
 from unittest import mock
 
@@ -97,6 +99,23 @@ class Edits(Folder):
             status, said = self.edit('echo "# mine" >>"$1"')
         self.assertEqual((status, self.read()), (3, CONFIG))
         self.assertIn("another edit", said)
+
+    def test_a_lock_that_was_removed_meanwhile_counts_for_nothing(self):
+        """Who waited for it takes the new file of its name: else a third one would not wait."""
+        seen = []
+
+        def wait():
+            with configuration.locked(self.config):
+                seen.append(os.path.exists(self.config + configuration.LOCK))
+                with open(self.config + configuration.LOCK, "rb") as file:
+                    seen.append(files.is_locked(file))
+
+        waiting = threading.Thread(target=wait)
+        with configuration.locked(self.config):
+            waiting.start()
+            time.sleep(0.1)
+        waiting.join()
+        self.assertEqual((seen, self.left()), ([True, False], []))
 
     def test_keys_of_the_meantime_come_along(self):
         self.write(f"{self.folder}/more", CONFIG + KEY)

@@ -38,7 +38,9 @@ def locked(path, ending=LOCK, patience=PATIENCE, fault=""):
             if time.monotonic() > end:
                 fail(fault or f"another program has {path} locked: try again", 3)
             time.sleep(0.02)
-        is_held = is_same(file, path + ending)
+        # One that another run has removed meanwhile counts for nothing.
+        with contextlib.suppress(FileNotFoundError):
+            is_held = os.path.samestat(os.fstat(file.fileno()), os.lstat(path + ending))
         if not is_held:
             file.close()
     with file:
@@ -63,14 +65,6 @@ def open_lock(path):
             os.remove(path)
     except OSError as fault:
         return fail(f"cannot lock {path}: {fault.strerror}; be root")
-
-
-def is_same(file, path):
-    """Whether a file still has its name: one that another run has removed counts for nothing."""
-    try:
-        return os.path.samestat(os.fstat(file.fileno()), os.lstat(path))
-    except FileNotFoundError:
-        return False
 
 
 def copy_rights(handle, path):
