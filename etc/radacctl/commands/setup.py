@@ -88,11 +88,8 @@ STOPPED = "stopped; give the same again: it goes on"
 
 def parser():
     it = program.parser(__doc__)
-    it.add_argument("--dry-run", action="store_true")
-    it.add_argument("--yes", action="store_true")
-    it.add_argument("--new-book", action="store_true")
-    it.add_argument("--sample", action="store_true")
-    it.add_argument("--remove", action="store_true")
+    for name in ("--dry-run", "--yes", "--new-book", "--sample", "--remove"):
+        it.add_argument(name, action="store_true")
     it.add_argument("file", nargs="?", metavar="FILE")
     return it
 
@@ -122,7 +119,7 @@ def is_wanted(words, lines):
     for it in lines:
         print(f"  - {it}")
     if words.dry_run or words.yes:
-        return words.yes and not words.dry_run
+        return not words.dry_run
     if not sys.stdin.isatty() and words.file:
         program.fail("nobody is there to answer: give --yes")
     return program.is_yes("Do this?") or program.fail("nothing was done")
@@ -164,9 +161,7 @@ def do(words, wanted):
     # What each unit has read is noted before a file is changed, be it one that was installed now.
     for it in (it for it in found if isinstance(it, steps.Fresh)):
         is_done(it)
-    for it in found:
-        finish(it)
-    for it in last:
+    for it in [*found, *last]:
         finish(it)
     print(f"What to type at access servers is in {devices.FOLDER}.")
     return doctor.main([])
