@@ -11,14 +11,10 @@ from radacctl import site
 from radacctl.program import say
 
 
-def option_of(words, name, default):
-    """The value of the first option of this name in a command line."""
-    for at, word in enumerate(words):
-        if word == name and at + 1 < len(words):
-            return words[at + 1]
-        if word.startswith(name + "="):
-            return word[len(name) + 1 :]
-    return default
+def option_of(line, name, default):
+    """The value of the first option of this name in a command line, as /proc has it."""
+    found = re.search(rf"\0{name}[\0=]([^\0]*)\0", line)
+    return found[1] if found else default
 
 
 def is_trusted(process):
@@ -36,11 +32,11 @@ def desk_of(process, path):
     """Where the desk of a process is, if it is a server of this configuration, else None."""
     try:
         with open(f"/proc/{process}/cmdline", "rb") as file:
-            words = file.read().decode(errors="surrogateescape").split("\0")
+            line = file.read().decode(errors="surrogateescape")
     except OSError:
         return None
-    config = option_of(words, "--config", None)
-    if "serve" not in words or config is None:
+    config = option_of(line, "--config", None)
+    if "\0serve\0" not in line or config is None:
         return None
     try:
         if not is_trusted(process):
@@ -55,8 +51,8 @@ def desk_of(process, path):
         return None
     if os.path.realpath(config) != path:
         return None
-    host = option_of(words, "--desk-bind", option_of(words, "--bind", "127.0.0.1"))
-    return host.replace("0.0.0.0", "127.0.0.1"), option_of(words, "--desk-port", "8066")
+    host = option_of(line, "--desk-bind", option_of(line, "--bind", "127.0.0.1"))
+    return host.replace("0.0.0.0", "127.0.0.1"), option_of(line, "--desk-port", "8066")
 
 
 def desks_of(path):
