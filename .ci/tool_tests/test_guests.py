@@ -253,7 +253,7 @@ class Guests(unittest.TestCase):
 
     def test_a_card_that_is_there_stays(self):
         self.site.write("card.html", "another one's")
-        self.assertRaises(guest.NotMade, self.new)
+        self.assertRaisesRegex(OSError, "is there already", self.new)
         self.assertEqual(files.text(self.site.card), "another one's")
         self.assertEqual((self.rows(), self.site.money), ([], {}))
 

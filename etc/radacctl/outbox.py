@@ -2,6 +2,7 @@
 
 import contextlib
 import csv
+import functools
 import json
 import os
 import sqlite3
@@ -218,18 +219,13 @@ class Outbox:
             sale = self.store.of(voucher)
             if sale[desk.name] not in (NEW, SENT) or self.is_refused(sale, desk):
                 continue
-            try:
-                state, had_it = desk.take(sale, lambda it=sale, to=desk: self.sent(it, to))
-            except Away:
-                continue
-            self.store.mark(voucher, desk.name, state)
-            is_repeat = is_repeat and (had_it or state != TAKEN)
+            # Before the desk gets it: it may have it from then on.
+            sent = functools.partial(self.store.mark, voucher, desk.name, SENT)
+            with contextlib.suppress(Away):
+                state, had_it = desk.take(sale, sent)
+                self.store.mark(voucher, desk.name, state)
+                is_repeat = is_repeat and (had_it or state != TAKEN)
         return self.concluded(self.store.of(voucher), is_repeat)
-
-    def sent(self, sale, desk):
-        """Notes that a desk may have a voucher, before it gets it."""
-        if sale[desk.name] == NEW:
-            self.store.mark(sale["voucher"], desk.name, SENT)
 
     @staticmethod
     def is_refused(sale, desk):

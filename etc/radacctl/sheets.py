@@ -52,10 +52,7 @@ def bars(text):
 
 def is_plain(text):
     """Whether the fonts that each reader has show a text."""
-    try:
-        return bool(text.encode("cp1252")) or True
-    except UnicodeEncodeError:
-        return False
+    return text.encode("cp1252", "ignore").decode("cp1252") == text
 
 
 class Fonts:

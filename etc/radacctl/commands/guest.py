@@ -164,17 +164,11 @@ def write_card(account, password, package, site_money, guest, url):
              "validity": package.validity()}
     texts = {name: html.escape(it) for name, it in texts.items()}
     wifi = packages.wifi()
-    try:
-        drawn = map(cards.svg, codes_of(wifi, account, password, guest["token"], url))
-        texts["codes"] = "\n".join(drawn)
-    except cards.Fault as why:
-        raise NotMade(why) from None
+    drawn = map(cards.svg, codes_of(wifi, account, password, guest["token"], url))
+    texts["codes"] = "\n".join(drawn)
     texts["wifi"] = f"<br>Wi-Fi: <b>{html.escape(wifi['name'])}</b>" if wifi else ""
-    try:
-        body = CARD.format(**texts)
-        files.make_named(guest["card"], cards.PAGE.format(body=body, **STYLE).encode())
-    except OSError as why:
-        raise NotMade(why) from None
+    body = CARD.format(**texts)
+    files.make_named(guest["card"], cards.PAGE.format(body=body, **STYLE).encode())
 
 
 def codes_of(wifi, account, password, token, url):
