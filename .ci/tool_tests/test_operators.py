@@ -55,26 +55,23 @@ home_server lobby {
             self.assertEqual(self.ask("jörg", asked), (403, {"error": "not allowed"}))
 
     def test_what_the_doctor_found(self):
-        ran = {"InvocationID": "a" * 32, "ActiveState": "active",
-               "ExecMainStartTimestampMonotonic": "1000000",
-               "ExecMainExitTimestampMonotonic": "2000000"}
+        """A look that was cut off, or is not at its end, is not taken for the whole."""
         line = "warning copy-old: there is no copy. Do: systemctl start radacctd-nightly"
-        said = f"{line}\n\nradacctl doctor: could not look at the pair: x\n"
-        told = mock.Mock(return_value=said)
-        for more, wanted in (({}, False), ({"ActiveState": "activating"}, True),
-                             ({"ExecMainExitTimestampMonotonic": "0"}, False)):
-            with (mock.patch.object(lists.look, "properties", lambda *_: {**ran, **more}),
-                  mock.patch.object(lists.look, "must", told),
-                  mock.patch.object(lists.look, "run", lambda *_: (0, ""))):
-                found = self.asked(act="doctor")
-            self.assertEqual((found["looks"], found["moment"] is None), (wanted, bool(more)))
-            self.assertEqual([it["name"] for it in found["lines"]], [] if more else ["copy-old", ""])
-        told.reset_mock()
-        for state, count in (("activating", 0), ("active", 1), ("inactive", 2), ("failed", 3)):
+        self.site.write("doctor", f"{line}\n\nradacctl doctor: could not look at the pair: x\n")
+        os.utime(self.site.path("doctor"), (NOW, NOW))
+        told = mock.Mock()
+        for state, path, wanted in (("inactive", "doctor", NOW), ("activating", "doctor", None),
+                                    ("failed", "doctor", None), ("inactive", "none", None)):
+            told.reset_mock()
             with (mock.patch.object(lists.look, "properties", lambda *_: {"ActiveState": state}),
-                  mock.patch.object(lists.look, "must", told)):
+                  mock.patch.object(lists.look, "must", told),
+                  mock.patch.object(lists, "SAID", self.site.path(path))):
+                found = self.asked(act="doctor")
                 self.assertEqual(self.asked(act="look"), {"result": "new"})
-            self.assertEqual(told.call_count, count)
+            self.assertEqual((found["looks"], found["moment"]), (state == "activating", wanted))
+            names_of = [it["name"] for it in found["lines"]]
+            self.assertEqual(names_of, ["copy-old", ""] if wanted else [])
+            self.assertEqual(told.call_count, state != "activating")
         told.assert_called_with("systemctl", "restart", "--no-block", "radacctd-doctor.service")
         unseen = mock.Mock(side_effect=lists.look.Unseen("no systemd"))
         with mock.patch.object(lists.look, "properties", unseen):

@@ -4,6 +4,7 @@ and what the doctor found.
 What devices and guests named is handed on as it is: a page shows it as text.
 """
 
+import os
 import re
 import time
 
@@ -13,8 +14,8 @@ from radacctl.commands import packages as sold
 from radacctl.doctor import look
 
 MOST = 10_000
-DOCTOR = "radacctd-doctor.service"
-# A line of the doctor.
+# The unit of the doctor, what it said as it looked the last time, and one of its lines.
+DOCTOR, SAID = "radacctd-doctor.service", "/run/radacctd-doctor"
 FOUND = re.compile(r"(critical|warning) ([a-z0-9-]+): (.+)\. Do: (.+)")
 
 
@@ -120,31 +121,23 @@ def codes():
 
 def begin_look():
     """Lets the doctor look. One that is looking goes on."""
-    if not is_looking(look.properties(DOCTOR, "ActiveState")):
+    if not doctor()["looks"]:
         look.must("systemctl", "restart", "--no-block", DOCTOR)
     return {"result": "new"}
 
 
-def is_looking(found):
-    """Once it has looked, its unit stays active: else systemd would forget when that was."""
-    return found.get("ActiveState") in ("activating", "deactivating", "reloading")
-
-
 def doctor():
-    """What the doctor found the last time, and when; or that it looks just now."""
-    found = look.properties(DOCTOR, "InvocationID", "ActiveState", "ExecMainExitTimestampMonotonic",
-                            "ExecMainStartTimestampMonotonic")
-    end, begin = (int(found.get(it) or 0) for it in ("ExecMainExitTimestampMonotonic",
-                                                     "ExecMainStartTimestampMonotonic"))
-    if is_looking(found) or not end or end < begin or not found.get("InvocationID"):
-        return {"looks": is_looking(found), "moment": None, "lines": []}
-    look.run("journalctl", "--sync")
-    said = look.must("journalctl", "--no-pager", "-q", "-o", "cat",
-                     f"_SYSTEMD_INVOCATION_ID={found['InvocationID']}")
-    ago = time.clock_gettime(time.CLOCK_MONOTONIC) - end / 1e6
-    lines = [dict(zip(("gravity", "name", "text", "cure"), row_of(it)))
-             for it in said.splitlines() if it.strip()]
-    return {"looks": False, "moment": int(time.time() - ago), "lines": lines}
+    """What the doctor found the last time, and when; or that it looks just now. Of one that was cut
+    off nobody knows what it would have found.
+    """
+    state = look.properties(DOCTOR, "ActiveState").get("ActiveState")
+    found = {"looks": state == "activating", "moment": None, "lines": []}
+    if state == "inactive" and os.path.exists(SAID):
+        with open(SAID, encoding="utf-8", errors="replace") as file:
+            found["moment"] = int(os.fstat(file.fileno()).st_mtime)
+            found["lines"] = [dict(zip(("gravity", "name", "text", "cure"), row_of(it)))
+                              for it in file.read().splitlines() if it.strip()]
+    return found
 
 
 def row_of(line):
