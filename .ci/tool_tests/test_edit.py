@@ -136,7 +136,7 @@ class Edits(Folder):
 
     def test_a_plan_of_the_book_stays_what_it_is(self):
         self.write(self.book, "")
-        self.rows = [("default", 1000, 5, 0)]
+        self.rows = [(b"default", 1000, 5, 0)]
         status, said = self.edit('sed -i "s/unit = 5/unit = 6/" "$1"')
         self.assertEqual((status, self.read()), (1, CONFIG))
         self.assertIn("was block 1000, unit 5, count both, and is now block 1000, unit 6", said)
@@ -144,7 +144,7 @@ class Edits(Folder):
     def test_a_new_plan_is_asked_about(self):
         self.write(self.book, "")
         plan = '\\n[[plan]]\\nclass = "gold"\\nblock = 1\\nunit = 1\\n'
-        for rows in ([("default", 1000, 5, 0)], []):
+        for rows in ([(b"default", 1000, 5, 0)], []):
             self.rows = rows
             status, said = self.edit(f"printf '{plan}' >>\"$1\"", "q")
             self.assertEqual((status, self.read()), (1, CONFIG))

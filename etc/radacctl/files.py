@@ -16,12 +16,11 @@ from radacctl import site
 FOLDER = os.O_RDONLY | os.O_DIRECTORY | os.O_NOFOLLOW | os.O_CLOEXEC
 FLAGS = os.O_RDONLY | os.O_NOFOLLOW | os.O_NONBLOCK | os.O_CLOEXEC
 LARGEST = 1 << 26
-# Prints the rows of a query of a database as JSON: octets are texts of one letter each.
+# Prints the rows of a query of a database as JSON, where octets are {"hex": ..}.
 QUERY = """
 import json, sqlite3, sys
-shown = lambda it: it.decode("latin-1") if isinstance(it, bytes) else it
 rows = sqlite3.connect(sys.argv[1], uri=True, timeout=5).execute(sys.argv[2], sys.argv[3:])
-print(json.dumps([[shown(it) for it in row] for row in rows]))
+print(json.dumps(rows.fetchall(), default=lambda it: {"hex": it.hex()}))
 """
 
 
@@ -238,4 +237,13 @@ def rows(path, query, *values, is_still=False):
     octets, why = read_as_owner(path, 120, *words)
     if why:
         raise OSError(f"{path}: {why}")
-    return [tuple(row) for row in json.loads(octets)]
+    return [tuple(row) for row in json.loads(octets, object_hook=unhexed)]
+
+
+def hexed(octets):
+    """What JSON has of octets, and what it had."""
+    return {"hex": octets.hex()}
+
+
+def unhexed(found):
+    return bytes.fromhex(found["hex"]) if "hex" in found else found

@@ -58,12 +58,12 @@ def balances(path=MIRROR):
     rows = files.rows(path, query)
     if not rows:
         raise OSError(f"{path} has no balances")
-    return rows[0][0], {it[1].encode("latin-1"): it[2] for it in rows if it[1] is not None}
+    return rows[0][0], {it[1]: it[2] for it in rows if it[1] is not None}
 
 
 def known_to(store, path=MIRROR):
     """Which of the logins that nobody has noted as sold have an account in the book."""
-    accounts = {row[0].encode("latin-1") for row in files.rows(path, "SELECT account FROM balance")}
+    accounts = {account for (account,) in files.rows(path, "SELECT account FROM balance")}
     rows = store.read("SELECT account FROM login WHERE sold IS NULL AND state = 'live'")
     return [it for (it,) in rows if it in accounts]
 

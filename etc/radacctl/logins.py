@@ -135,15 +135,6 @@ def mark_of(key):
     return hashlib.sha256(f"radacctd packages {key}".encode()).hexdigest()
 
 
-def out(octets):
-    """What JSON has of octets, and what it had."""
-    return {"hex": octets.hex()}
-
-
-def into(found):
-    return bytes.fromhex(found["hex"]) if "hex" in found else found
-
-
 def is_lost(path, why):
     """Whether a database is gone or damaged, by the fault that reading it gave."""
     return bool(LOST.search(str(why))) or not os.path.exists(path)
@@ -199,11 +190,11 @@ class Store:
         asked = {"path": os.path.abspath(self.path), "patience": self.patience, "make": make,
                  "writes": writes, "statements": statements}
         self.child = self.child or Child(self.path)
-        line = self.child.ask(json.dumps(asked, default=out), self.patience + 60)
+        line = self.child.ask(json.dumps(asked, default=files.hexed), self.patience + 60)
         if not line:
             self.child = None
             raise Fault(f"{self.path}: its user's process ended, or did not answer in time")
-        said = json.loads(line, object_hook=into)
+        said = json.loads(line, object_hook=files.unhexed)
         if "fault" in said:
             raise Fault(f"{self.path}: {said['fault']}")
         return [[tuple(row) for row in rows] for rows in said["rows"]]

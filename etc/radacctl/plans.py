@@ -21,8 +21,7 @@ def of_book(path):
     """The plans that a book keeps, read beside the server that has it: none of them changes while
     it is served. OSError says why it cannot be read.
     """
-    rows = files.rows(path, QUERY, is_still=True)
-    return of_rows([row[0].encode("latin-1"), *row[1:]] for row in rows)
+    return of_rows(files.rows(path, QUERY, is_still=True))
 
 
 def texts_of(found):

@@ -315,7 +315,7 @@ def mirror(kind):
     if age > (int(oldest) if oldest.isdigit() else 60):
         yield Fault("mirror-old", f"the balances of logins are {age:.0f} seconds old",
                     f"systemctl status {kind.servers()} radacctd-mirror; date")
-    found = {names.shown(row[0].encode("latin-1")): tuple(map(str, row[1:])) for row in rows}
+    found = {names.shown(row[0]): tuple(map(str, row[1:])) for row in rows}
     path = "/var/lib/radacctd-pair/plans.csv" if kind.has_pair else site.PLANS
     wanted = plans.in_force(path)
     if wanted is None:
