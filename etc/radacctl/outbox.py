@@ -1,9 +1,7 @@
 """Vouchers that are on the disk until both desks of a pair took them."""
 
 import contextlib
-import csv
 import functools
-import json
 import os
 import sqlite3
 import sys
@@ -180,11 +178,9 @@ class Outbox:
         """Whether an account was sold to before, or has a balance."""
         if self.store.run("SELECT 1 FROM sale WHERE account = ? LIMIT 1", account):
             return True
-        wanted = names.octets_of(account)
         try:
-            with open(self.balances, encoding="ascii", newline="") as file:
-                return any(names.octets_of(it[0]) == wanted for it in csv.reader(file) if it)
-        except (OSError, ValueError, csv.Error) as fault:
+            return names.octets_of(account) in names.balances_in(self.balances)
+        except (OSError, ValueError) as fault:
             warn(f"cannot read {self.balances}, so no account of an odd name is known: {fault}")
             return False
 
@@ -279,9 +275,8 @@ class Outbox:
 
 def voucher_of(body):
     """Number, account and sum of a request's body; None if a member is out of its bounds."""
-    try:
-        said = json.loads(body)
-    except (ValueError, RecursionError):
+    said = desks.object_of(body)
+    if said is None:
         return 400, {"error": "bad request"}
     try:
         account = urllib.parse.unquote_to_bytes(said["account"].encode())
