@@ -19,10 +19,8 @@ CRITICALS = {
     ),
     "unit-down": ("a unit that the site needs does not run",
                   "start it; `journalctl -u` and its name says why it stopped"),
-    "unit-failed": (
-        "a unit of the site has failed",
-        "`journalctl -u` and its name; once it is mended, start it: it shows that it runs",
-    ),
+    "unit-failed": ("a unit of the site has failed", "`journalctl -u` and its name; once it is "
+                    "mended, start it: it shows that it runs"),
     "config-wrong": ("the configuration has a fault: a restart fails",
                      "`radacctl edit` ([SITE](SITE.md#the-first-fault))"),
     "plan-waits": ("a plan of the configuration is not in force: a restart fails",
@@ -103,10 +101,9 @@ WARNINGS = {
                       "[radacctd_filter](FREERADIUS.md#which-names-may-log-in)"),
     "status-check": ("FreeRADIUS gives radacctd up for good after an outage",
                      "[`status_check = none`](FREERADIUS.md#freeradius-as-a-plain-proxy)"),
-    "device-unknown": (
-        "FreeRADIUS ignores an address that is no client: a device with a new one, or a stranger",
-        "write it into access-servers.conf, and restart freeradius; or shut it out",
-    ),
+    "device-unknown": ("FreeRADIUS ignores an address that is no client: a device with a new one, "
+                       "or a stranger", "write it into access-servers.conf, and restart "
+                       "freeradius; or shut it out"),
     "counts-old": ("nothing counts FreeRADIUS' side", "restart radacctd-front"),
     "unsent": (
         "reports were filed, and nobody was charged",
