@@ -8,7 +8,7 @@ import tempfile
 import unittest
 from unittest import mock
 
-from radacctl import desk, files, money, names
+from radacctl import desk, files, money, names, plans
 from radacctl.doctor import front
 from tool_tests import ROOT, script
 
@@ -95,10 +95,13 @@ class Names(unittest.TestCase):
     def test_balances_of_another_form_are_refused(self):
         with tempfile.TemporaryDirectory() as folder:
             path = os.path.join(folder, "balances.csv")
-            for text in ("", "account,balance\nal,1\n", "account,balance,overrun\nal,1\n"):
+            for text in ("", "account,balance\nal,1\n", "account,balance,overrun\nal,1\n",
+                         "class,block,unit,count\nal,1\n", "\0" * 200_000):
                 with open(path, "w", encoding="ascii") as file:
                     file.write(text)
                 self.assertRaises(ValueError, names.balances_in, path)
+                # Nor are these plans, nor does a power cut that left them end who reads plans.
+                self.assertIsNone(plans.in_force(path))
             with open(path, "w", encoding="ascii") as file:
                 file.write("account,balance,overrun\na%2Cb,-5,5\n")
             self.assertEqual(names.balances_in(path), {b"a,b": -5})

@@ -69,14 +69,20 @@ def balances_in(path):
 
 def balances_of(text, path):
     """The same of the text of such a file."""
+    rows = rows_under(BALANCES, text, f"{path} has no balances")
+    return {octets_of(row[0]): int(row[1]) for row in rows}
+
+
+def rows_under(header, text, fault):
+    """The rows of a CSV file that radacctd wrote, which begins with this header; else ValueError."""
     try:
-        header, *rows = list(csv.reader(io.StringIO(text, newline=""))) or [[]]
+        found, *rows = list(csv.reader(io.StringIO(text, newline=""))) or [[]]
     except csv.Error:
         # As after a power cut, which may leave octets of 0.
-        header, rows = None, []
-    if header != BALANCES or any(len(row) != 3 for row in rows):
-        raise ValueError(f"{path} has no balances")
-    return {octets_of(row[0]): int(row[1]) for row in rows}
+        found, rows = None, []
+    if found != header or any(len(row) != len(header) for row in rows):
+        raise ValueError(fault)
+    return rows
 
 
 def balances(path=None):

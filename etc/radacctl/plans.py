@@ -10,7 +10,7 @@ from radacctl import files, names, site
 COUNTS = ("both", "in", "out")
 QUERY = "SELECT class, block, unit, mode FROM price_plan JOIN plan_count USING (class)"
 QUERY += " ORDER BY price_plan.rowid"
-HEADER = ("class", "block", "unit", "count")
+HEADER = ["class", "block", "unit", "count"]
 
 
 def of_rows(rows):
@@ -36,10 +36,7 @@ def texts_of(found):
 
 def rows_of(path):
     """The records of a file of plans in force. OSError or ValueError says why it has none."""
-    header, *rows = list(csv.reader(files.text(path).splitlines())) or [[]]
-    if header != list(HEADER) or any(len(row) != len(HEADER) for row in rows):
-        raise ValueError(f"{path} has no plans")
-    return rows
+    return names.rows_under(HEADER, files.text(path), f"{path} has no plans")
 
 
 def in_force(path=None):
