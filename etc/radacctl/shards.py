@@ -138,17 +138,12 @@ def join_balances(folder):
         raise faults[0]
 
 
-def plans_in(folder, shard):
-    """The plans of a book by their classes."""
-    rows = plans.rows_of(os.path.join(folder, f"{shard}-plans.csv"))
-    return {row[0]: tuple(row[1:]) for row in rows}
-
-
 def join_plans(folder):
     """The plans that each book has: no other one is in force at every account."""
-    if not any(os.path.exists(os.path.join(folder, f"{it}-plans.csv")) for it in SHARDS):
+    paths = [os.path.join(folder, f"{it}-plans.csv") for it in SHARDS]
+    if not any(map(os.path.exists, paths)):
         return
-    first, *others = [plans_in(folder, shard) for shard in SHARDS]
+    first, *others = [{row[0]: row[1:] for row in plans.rows_of(it)} for it in paths]
     all_have = {octets_of(it): (int(row[0]), int(row[1]), row[2]) for it, row in first.items()
                 if all(other.get(it) == row for other in others)}
     for name, text in plans.texts_of(all_have).items():
