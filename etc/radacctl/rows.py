@@ -3,6 +3,7 @@
 import contextlib
 import ctypes
 import hashlib
+import itertools
 import os
 import signal
 import sqlite3
@@ -12,7 +13,8 @@ from radacctl.program import Failed, say
 # The tables that `init` fills, and those that are copied.
 FILLED = ("meta", "price_plan", "plan_count")
 COPIED = ("account", "voucher", "session", "session_plan")
-ROWS = 10_000
+# Both files, in one connection.
+NEW, OLD = "main", "old"
 # A log shorter than its header, a frame's header and the smallest page has no frame.
 LEAST_LOG = 32 + 24 + 512
 # The octet of a database's header that says how many octets at the end of each page are a sum's.
@@ -47,8 +49,7 @@ def in_child(target, work):
         fault = "it was cut off"
         try:
             end_with(parent)
-            opened = target()
-            work(opened)
+            work(target())
             fault = ""
         except (Refused, OSError, sqlite3.Error) as found:
             fault = str(found)
@@ -84,35 +85,31 @@ def test_log(book):
             raise Refused(f"the log of {book} still has {size} octets")
 
 
-def test_tables(source, target):
+def test_tables(opened):
     """Both have the tables that this program knows."""
-    text = "SELECT type, name, tbl_name, sql FROM sqlite_schema ORDER BY rowid"
-    schemas = [opened.execute(text).fetchall() for opened in (source, target)]
-    tables = {row[1] for row in schemas[0] if row[0] == "table"}
-    if schemas[0] != schemas[1] or tables != {*FILLED, *COPIED}:
+    text = "SELECT type, name, tbl_name, sql FROM {}.sqlite_schema ORDER BY rowid"
+    new, old = (opened.execute(text.format(it)).fetchall() for it in (NEW, OLD))
+    tables = {row[1] for row in old if row[0] == "table"}
+    if old != new or tables != {*FILLED, *COPIED}:
         raise Refused("the book has other tables than this tool knows")
 
 
-def copy(source, target, table):
-    """Copies the rows of a table in their order."""
-    total = source.execute(f"SELECT count(*) FROM {table}").fetchone()[0]
-    rows = source.execute(f"SELECT * FROM {table} ORDER BY rowid")
-    marks = ", ".join("?" * len(rows.description))
-    count = 0
-    while batch := rows.fetchmany(ROWS):
-        target.executemany(f"INSERT INTO {table} VALUES ({marks})", batch)
-        count += len(batch)
-        say(f"{count} of {total} rows of {table}")
+def copy(opened):
+    """Copies all rows in their order, in one transaction, and compares them."""
+    test_tables(opened)
+    opened.execute("BEGIN IMMEDIATE")
+    for table in COPIED:
+        rows = f"INSERT INTO {NEW}.{table} SELECT * FROM {OLD}.{table} ORDER BY rowid"
+        say(f"copied {opened.execute(rows).rowcount} rows of {table}")
+    opened.execute("COMMIT")
+    say("comparing each row")
+    for table in (*FILLED, *COPIED):
+        compare(opened, table)
 
 
-def compare(source, target, table):
+def compare(opened, table):
     """Each row is in both, in the same order; that of the tables that `init` fills is free."""
-    order = "1" if table in FILLED else "rowid"
-    text = f"SELECT * FROM {table} ORDER BY {order}"
-    one, other = source.execute(text), target.execute(text)
-    while True:
-        rows = one.fetchmany(ROWS), other.fetchmany(ROWS)
-        if rows[0] != rows[1]:
-            raise Refused(f"the new file has other rows of {table}")
-        if not rows[0]:
-            return
+    text = f"SELECT * FROM {{}}.{table} ORDER BY {'1' if table in FILLED else 'rowid'}"
+    new, old = (opened.execute(text.format(it)) for it in (NEW, OLD))
+    if any(one != other for one, other in itertools.zip_longest(new, old)):
+        raise Refused(f"the new file has other rows of {table}")

@@ -22,8 +22,8 @@ copies the log into the file.
 A run that was cut off at any moment leaves the old book or the new one. The next run removes the
 folder BOOK.new that it may leave. It takes the time of eleven starts, the memory of one, and twice
 the space of the new file: with sums fifteen starts, and three times the space. If root runs it, it
-works as the user who may change names on BOOK's path (as-owner), which is the service's, or else as
-the owner of BOOK.
+works as the user who may change names on BOOK's path (as-owner), which is the service's, and is to
+own BOOK.
 
 The status is 0 if BOOK is the new file, 1 if it is the old one, and 2 for a bad command line. A
 line on standard error says why.
@@ -31,10 +31,8 @@ line on standard error says why.
 
 import argparse
 import contextlib
-import fcntl
 import hashlib
 import os
-import pwd
 import signal
 import sqlite3
 import stat
@@ -43,15 +41,13 @@ import sys
 import time
 import urllib.parse
 
-from radacctl import program, rows, site
-from radacctl.files import remove
-from radacctl.files import sync_folder as sync
+from radacctl import files, program, rows, site
+from radacctl.files import remove, sync_folder as sync
 from radacctl.program import say
 
 EXPORTS = ("sessions", "balances", "topups", "overruns")
 # What may be in BOOK.new.
 PARTS = ("book", "book-wal", "book-shm", "book-journal")
-CHUNK = 1 << 20
 # The memory for pages, in KiB.
 CACHE = 65_536
 
@@ -70,20 +66,20 @@ class Rewrite:
         self.is_begun = self.is_placed = False
 
     def begin(self):
-        """Tests what is there, and becomes the owner of the book."""
+        """Tests what is there."""
         try:
             status = os.stat(self.book)
         except OSError as fault:
             raise rows.Refused(f"{self.book}: {fault.strerror}") from None
         if not stat.S_ISREG(status.st_mode):
             raise rows.Refused(f"{self.book} is no file")
-        if os.geteuid() not in (0, status.st_uid):
-            raise rows.Refused(f"{self.book} is another user's: be root")
+        if os.geteuid() != status.st_uid:
+            raise rows.Refused(f"{self.book} is another user's: be root, and let that user own its "
+                               "folder")
         # One rewrite or restore at a time in a folder. The lock ends with this process.
-        lock(os.open(self.folder, os.O_RDONLY), f"another rewrite or a restore is in {self.folder}")
+        if not files.is_locked(os.open(self.folder, os.O_RDONLY)):
+            raise rows.Refused(f"another rewrite or a restore is in {self.folder}")
         refuse_if_held(self.book)
-        if os.geteuid() == 0 and status.st_uid != 0:
-            become(status.st_uid, status.st_gid)
         self.is_begun = True
         self.remove_new()
 
@@ -108,21 +104,13 @@ class Rewrite:
             raise rows.Refused(f"`radacctd {name}` says of {book}: {said}")
 
     def export(self, what, book):
-        """The length and the digest of an export."""
+        """The digest of an export. Standard error has what the program says."""
         words = [self.program, "export", "--config", self.config, "--db", book, what]
-        length, digest = 0, hashlib.sha256()
-        with subprocess.Popen(words, stdout=subprocess.PIPE, stderr=subprocess.PIPE) as process:
-            try:
-                while chunk := process.stdout.read(CHUNK):
-                    length += len(chunk)
-                    digest.update(chunk)
-                errors = process.stderr.read().decode(errors="replace").strip()
-            except BaseException:
-                process.kill()
-                raise
+        with subprocess.Popen(words, stdout=subprocess.PIPE) as process:
+            found = hashlib.file_digest(process.stdout, "sha256").digest()
         if process.returncode:
-            raise rows.Refused(f"`radacctd export {what}` says of {book}: {errors}")
-        return length, digest.digest()
+            raise rows.Refused(f"`radacctd export {what}` of {book}: status {process.returncode}")
+        return found
 
     def empty_log(self):
         """Lets the program copy the log into the file, so that the file alone is the book."""
@@ -133,40 +121,29 @@ class Rewrite:
     def fill(self):
         """Copies all rows into the new file, and compares them."""
         if self.has_sums:
-            rows.in_child(self.target, self.copy_rows)
+            rows.in_child(self.both, rows.copy)
             # Gives the pages in the log their sums, and copies them into the file.
             self.command("plans", self.new)
         else:
-            with contextlib.closing(self.target()) as target:
-                self.copy_rows(target)
-                target.execute("PRAGMA wal_checkpoint(TRUNCATE)")
+            with contextlib.closing(self.both()) as opened:
+                rows.copy(opened)
+                opened.execute("PRAGMA wal_checkpoint(TRUNCATE)")
 
-    def copy_rows(self, target):
-        """Copies all rows in one transaction, and compares them."""
-        with contextlib.closing(self.source()) as source:
-            rows.test_tables(source, target)
-            target.execute("BEGIN IMMEDIATE")
-            for table in rows.COPIED:
-                rows.copy(source, target, table)
-            target.execute("COMMIT")
-            say("comparing each row")
-            for table in (*rows.FILLED, *rows.COPIED):
-                rows.compare(source, target, table)
-
-    def target(self):
-        """The new file. Its log is copied into it only if it is closed or this is asked for."""
-        target = sqlite3.connect(self.new, isolation_level=None)
+    def both(self):
+        """The new file and the old one. The log of the new one is copied into it only if it is
+        closed or this is asked for. SQLite only reads the old one, whose log is empty.
+        """
+        new, old = (f"file:{urllib.parse.quote(it)}" for it in (self.new, self.book))
+        opened = sqlite3.connect(f"{new}?mode=rw", uri=True, isolation_level=None)
         # The log's index is kept in memory, and no other file is made.
-        target.execute("PRAGMA locking_mode = EXCLUSIVE")
-        target.execute("PRAGMA synchronous = FULL")
-        target.execute("PRAGMA wal_autocheckpoint = 0")
-        target.execute(f"PRAGMA cache_size = -{CACHE}")
-        return target
-
-    def source(self):
-        """The old file, which SQLite only reads: its log is empty."""
-        name = urllib.parse.quote(self.book)
-        return sqlite3.connect(f"file:{name}?mode=ro&immutable=1", uri=True, isolation_level=None)
+        opened.execute("PRAGMA locking_mode = EXCLUSIVE")
+        opened.execute("PRAGMA synchronous = FULL")
+        opened.execute("PRAGMA wal_autocheckpoint = 0")
+        opened.execute(f"PRAGMA cache_size = -{CACHE}")
+        opened.execute(f"ATTACH ? AS {rows.OLD}", (f"{old}?mode=ro&immutable=1",))
+        # Python sees a signal only between two steps of its own, and one statement copies a table.
+        opened.set_progress_handler(lambda: 0, 1_000_000)
+        return opened
 
     def make(self):
         """Makes the new file, and compares it with the old one."""
@@ -201,7 +178,8 @@ class Rewrite:
     def place(self):
         """Puts the new file in the place of the old one, which no program can open meanwhile."""
         with open(self.book, "rb") as old:
-            lock(old, f"a process has opened {self.book} meanwhile")
+            if not files.is_locked(old):
+                raise rows.Refused(f"a process has opened {self.book} meanwhile")
             self.refuse_if_changed(old)
             # Its log goes first, so that none can be read with the new file. It has nothing.
             remove(self.book + "-wal")
@@ -263,24 +241,6 @@ def leave_root(words):
     command = [*done.stdout.splitlines(), *again]
     os.chdir("/")
     os.execvp(command[0], command)
-
-
-def become(user, group):
-    """Goes on as the owner of the book, as the server does."""
-    try:
-        os.initgroups(pwd.getpwuid(user).pw_name, group)
-    except KeyError:
-        os.setgroups([group])
-    os.setgid(group)
-    os.setuid(user)
-
-
-def lock(opened, fault):
-    """Locks a file as the program does."""
-    try:
-        fcntl.flock(opened, fcntl.LOCK_EX | fcntl.LOCK_NB)
-    except OSError:
-        raise rows.Refused(fault) from None
 
 
 def ended(number, _):
