@@ -229,7 +229,7 @@ class Site:
     def change(self, account, **values):
         sets = ", ".join(f"{name} = ?" for name in values)
         self.store.run((f"UPDATE login SET {sets} WHERE account = ?",
-                        (*values.values(), account.encode()), 1))
+                        (*values.values(), account.encode())))
 
     def forget(self):
         """No device, and no wrong try, was ever there."""
