@@ -107,7 +107,12 @@ class Rewrite:
         """The digest of an export. Standard error has what the program says."""
         words = [self.program, "export", "--config", self.config, "--db", book, what]
         with subprocess.Popen(words, stdout=subprocess.PIPE) as process:
-            found = hashlib.file_digest(process.stdout, "sha256").digest()
+            try:
+                found = hashlib.file_digest(process.stdout, "sha256").digest()
+            except BaseException:
+                # It reads a book for minutes before it writes, and would be awaited.
+                process.kill()
+                raise
         if process.returncode:
             raise rows.Refused(f"`radacctd export {what}` of {book}: status {process.returncode}")
         return found
