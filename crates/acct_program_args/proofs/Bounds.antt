@@ -4,11 +4,13 @@ use Rattle.std.specs.Prelude.{IfSome}
 use Rattle.clap.specs.Words.{Row, Text}
 use Rattle.acct_program_args.specs.declared.job.Job.{Job}
 use Rattle.acct_program_args.specs.declared.job.Job.TheVariants as job
+use Rattle.acct_program_args.specs.declared.job.BookJob.{BookJob}
+use Rattle.acct_program_args.specs.declared.job.BookJob.TheVariants as of_book
 use Rattle.acct_program_args.specs.declared.job.BalancesFile.{BalancesFile}
 use Rattle.acct_program_args.specs.declared.job.Cutoff.{Cutoff}
 use Rattle.acct_program_args.specs.declared.job.Cutoff.TheVariants.{Before, At}
-use Rattle.acct_program_args.specs.Orders.{HasBounds, IsBalances, WordsAskFor, IsCutoff, IsWithin}
-use Rattle.acct_program_args.specs.Orders.{IsSilence, IsOldest, AreDays}
+use Rattle.acct_program_args.specs.Orders.{HasBounds, AreBounded, IsBalances, IsCutoff, IsWithin}
+use Rattle.acct_program_args.specs.Orders.{IsSilence, IsOldest, AreDays, WordsAskFor, WordsAskOfBook}
 
 seconds : (rows : List Row) (balances : Option BalancesFile) → IsBalances rows balances
     → IfSome balances (λ balances. (1 ≤ balances.seconds) × (balances.seconds ≤ 86400))
@@ -28,24 +30,28 @@ oldest : (rows : List Row) (days : Option ℕ) → IsOldest rows days
 oldest rows None asked = tt
 oldest rows (Some days) asked = asked.4
 
+of_a_book : (name : Text) (rows : List Row) (asked : BookJob) → WordsAskOfBook name rows asked
+    → AreBounded asked
+of_a_book name rows (of_book.Init has_sums) asked = tt
+of_a_book name rows (of_book.Serve serving) asked = record {
+  turns = omega (arith, asked.1.1.4);
+  some_address = asked.1.0.0.1;
+  addresses = asked.1.0.0.2;
+  seconds = seconds rows serving.telling.balances asked.1.4.2;
+  oldest = oldest rows serving.oldest_report asked.1.3;
+}
+of_a_book name rows of_book.Import asked = tt
+of_a_book name rows (of_book.Export what) asked = tt
+of_a_book name rows of_book.Migrate asked = tt
+of_a_book name rows of_book.AddPlans asked = tt
+of_a_book name rows (of_book.Forward carrying) asked = (
+  within rows carrying.cutoff asked.1.0,
+  silence rows carrying.silent asked.1.1,
+  oldest rows carrying.oldest_report asked.1.5,
+)
+
 pub bounded : (name : Text) (rows : List Row) (asked : Job) → WordsAskFor name rows asked
     → HasBounds asked
 bounded name rows (job.Feed config) asked = tt
 bounded name rows (job.Check config database kept audits) asked = tt
-bounded name rows (job.Init paths has_sums) asked = tt
-bounded name rows (job.Serve paths serving) asked = record {
-  turns = omega (arith, asked.2.1.4);
-  some_address = asked.2.0.0.1;
-  addresses = asked.2.0.0.2;
-  seconds = seconds rows serving.telling.balances asked.2.4.2;
-  oldest = oldest rows serving.oldest_report asked.2.3;
-}
-bounded name rows (job.Import paths) asked = tt
-bounded name rows (job.Export paths what) asked = tt
-bounded name rows (job.Migrate paths) asked = tt
-bounded name rows (job.AddPlans paths) asked = tt
-bounded name rows (job.Forward paths carrying) asked = (
-  within rows carrying.cutoff asked.2.0,
-  silence rows carrying.silent asked.2.1,
-  oldest rows carrying.oldest_report asked.2.5,
-)
+bounded name rows (job.Book paths work) asked = of_a_book name rows work asked.1

@@ -8,6 +8,8 @@ use Rattle.acct_model.specs.Numbers.{number_up_to}
 use Rattle.acct_program_args.specs.declared.job.Order.{Order}
 use Rattle.acct_program_args.specs.declared.job.Job.{Job}
 use Rattle.acct_program_args.specs.declared.job.Job.TheVariants as job
+use Rattle.acct_program_args.specs.declared.job.BookJob.{BookJob}
+use Rattle.acct_program_args.specs.declared.job.BookJob.TheVariants as of_book
 use Rattle.acct_program_args.specs.declared.job.Export.{Export}
 use Rattle.acct_program_args.specs.declared.job.Export.TheVariants.{Sessions, Balances, TopUps}
 use Rattle.acct_program_args.specs.declared.job.Export.TheVariants.{Overruns}
@@ -140,6 +142,18 @@ IsCarrying rows carrying =
     × IsFlag (codes "dry-run") rows carrying.is_dry × IsFlag (codes "yes") rows carrying.is_sure
     × IsOldest rows carrying.oldest_report
 
+-- what the rows of a subcommand's options ask to be done with a book
+abbrev pub WordsAskOfBook : Text → List Row → BookJob → Type 0
+WordsAskOfBook name rows (of_book.Init has_sums) =
+    (name ≡ codes "init") × IsFlag (codes "page-sums") rows has_sums
+WordsAskOfBook name rows (of_book.Serve serving) = (name ≡ codes "serve") × IsServing rows serving
+WordsAskOfBook name rows of_book.Import = name ≡ codes "import"
+WordsAskOfBook name rows (of_book.Export what) = (name ≡ codes "export") × IsExport rows what
+WordsAskOfBook name rows of_book.Migrate = name ≡ codes "migrate"
+WordsAskOfBook name rows of_book.AddPlans = name ≡ codes "plans"
+WordsAskOfBook name rows (of_book.Forward carrying) =
+    (name ≡ codes "forward") × IsCarrying rows carrying
+
 -- what the rows of a subcommand's options ask for
 abbrev pub WordsAskFor : Text → List Row → Job → Type 0
 WordsAskFor name rows (job.Feed config) =
@@ -148,17 +162,7 @@ WordsAskFor name rows (job.Check config database kept audits) =
     (name ≡ codes "check") × (first_of (codes "config") rows ≡ Some config)
     × (first_of (codes "db") rows ≡ database) × AreKeptNames rows kept
     × IsFlag (codes "audit") rows audits × (audits ≡ true → is_some database ≡ true)
-WordsAskFor name rows (job.Init paths has_sums) =
-    (name ≡ codes "init") × ArePaths rows paths × IsFlag (codes "page-sums") rows has_sums
-WordsAskFor name rows (job.Serve paths serving) =
-    (name ≡ codes "serve") × ArePaths rows paths × IsServing rows serving
-WordsAskFor name rows (job.Import paths) = (name ≡ codes "import") × ArePaths rows paths
-WordsAskFor name rows (job.Export paths what) =
-    (name ≡ codes "export") × ArePaths rows paths × IsExport rows what
-WordsAskFor name rows (job.Migrate paths) = (name ≡ codes "migrate") × ArePaths rows paths
-WordsAskFor name rows (job.AddPlans paths) = (name ≡ codes "plans") × ArePaths rows paths
-WordsAskFor name rows (job.Forward paths carrying) =
-    (name ≡ codes "forward") × ArePaths rows paths × IsCarrying rows carrying
+WordsAskFor name rows (job.Book paths asked) = ArePaths rows paths × WordsAskOfBook name rows asked
 
 -- the order is that of the subcommand that the command line names
 abbrev pub NamesJob : Option (Text × List Row) → Order → Type 0
@@ -187,16 +191,20 @@ abbrev pub IsWithin : Cutoff → Type 0
 IsWithin (Before days) = AreDays days
 IsWithin (At moment) = moment < 2 ^ 53
 
--- the numbers of a job are within their bounds
+-- the numbers of what is done with a book are within their bounds
+abbrev pub AreBounded : BookJob → Type 0
+AreBounded (of_book.Init has_sums) = ⊤
+AreBounded (of_book.Serve serving) = IsBounded serving
+AreBounded of_book.Import = ⊤
+AreBounded (of_book.Export what) = ⊤
+AreBounded of_book.Migrate = ⊤
+AreBounded of_book.AddPlans = ⊤
+AreBounded (of_book.Forward carrying) =
+    IsWithin carrying.cutoff × IfSome carrying.silent AreDays
+    × IfSome carrying.oldest_report (λ days. days ≤ 36500)
+
+-- so are those of a job
 abbrev pub HasBounds : Job → Type 0
 HasBounds (job.Feed config) = ⊤
 HasBounds (job.Check config database kept audits) = ⊤
-HasBounds (job.Init paths has_sums) = ⊤
-HasBounds (job.Serve paths serving) = IsBounded serving
-HasBounds (job.Import paths) = ⊤
-HasBounds (job.Export paths what) = ⊤
-HasBounds (job.Migrate paths) = ⊤
-HasBounds (job.AddPlans paths) = ⊤
-HasBounds (job.Forward paths carrying) =
-    IsWithin carrying.cutoff × IfSome carrying.silent AreDays
-    × IfSome carrying.oldest_report (λ days. days ≤ 36500)
+HasBounds (job.Book paths asked) = AreBounded asked

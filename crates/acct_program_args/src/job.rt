@@ -56,49 +56,8 @@ pub enum Job {
         /// Whether each balance of the book is checked against its vouchers and sessions.
         audits: bool,
     },
-    /// Makes a book.
-    Init {
-        /// Its files.
-        paths: Paths,
-        /// Whether each page of it is to end in a sum.
-        has_sums: bool,
-    },
-    /// Answers access servers and callers of the desk.
-    Serve {
-        /// Its files.
-        paths: Paths,
-        /// How it runs.
-        serving: Serving,
-    },
-    /// Credits the vouchers of standard input.
-    Import {
-        /// Its files.
-        paths: Paths,
-    },
-    /// Writes the book as CSV.
-    Export {
-        /// Its files.
-        paths: Paths,
-        /// What of the book.
-        what: Export,
-    },
-    /// Converts a book of an earlier version into one of this version.
-    Migrate {
-        /// Its files.
-        paths: Paths,
-    },
-    /// Adds the plans that the book does not keep yet.
-    AddPlans {
-        /// Its files.
-        paths: Paths,
-    },
-    /// Carries old sessions forward.
-    Forward {
-        /// Its files.
-        paths: Paths,
-        /// Which sessions, and how.
-        carrying: Carrying,
-    },
+    /// Keeps the book of these files: what is done with it.
+    Book(Paths, BookJob),
 }
 
 impl Drop for Job {
@@ -111,22 +70,42 @@ impl Drop for Job {
                 kept: _,
                 audits: _,
             } => {}
-            Job::Init {
-                paths: _,
-                has_sums: _,
-            } => {}
-            Job::Serve {
-                paths: _,
-                serving: _,
-            } => {}
-            Job::Import { paths: _ } => {}
-            Job::Export { paths: _, what: _ } => {}
-            Job::Migrate { paths: _ } => {}
-            Job::AddPlans { paths: _ } => {}
-            Job::Forward {
-                paths: _,
-                carrying: _,
-            } => {}
+            Job::Book(_, _) => {}
+        }
+    }
+}
+
+/// What is done with a book.
+pub enum BookJob {
+    /// Makes it.
+    Init {
+        /// Whether each page of it is to end in a sum.
+        has_sums: bool,
+    },
+    /// Answers access servers and callers of the desk, this way.
+    Serve(Serving),
+    /// Credits the vouchers of standard input.
+    Import,
+    /// Writes this of it as CSV.
+    Export(Export),
+    /// Converts it from an earlier version into this one.
+    Migrate,
+    /// Adds the plans that it does not keep yet.
+    AddPlans,
+    /// Carries these old sessions forward.
+    Forward(Carrying),
+}
+
+impl Drop for BookJob {
+    fn drop(self) {
+        match self {
+            BookJob::Init { has_sums: _ } => {}
+            BookJob::Serve(_) => {}
+            BookJob::Import => {}
+            BookJob::Export(_) => {}
+            BookJob::Migrate => {}
+            BookJob::AddPlans => {}
+            BookJob::Forward(_) => {}
         }
     }
 }

@@ -14,8 +14,8 @@ mod telling;
 
 pub use exports::{EXPORT_NAMES, export_named};
 pub use job::{
-    BalancesFile, Carrying, Cutoff, Export, Job, KeptNames, Listening, Order, Paths, Serving,
-    Syncs, Telling, seconds_in,
+    BalancesFile, BookJob, Carrying, Cutoff, Export, Job, KeptNames, Listening, Order, Paths,
+    Serving, Syncs, Telling, seconds_in,
 };
 pub use option_limits::{FEWEST_DAYS, LAST_PORT, MOST_DAYS, MOST_SECONDS, MOST_TURNS};
 pub use parsing::job_of;

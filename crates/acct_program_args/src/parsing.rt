@@ -2,14 +2,13 @@
 ghost use Rattle.std.specs.Prelude.{◌≡◌, IfOk, IfSome, Some, codes, map, string_bytes};
 ghost use Rattle.clap.specs.Words.{first_of, rows_of, found_of, subcommand_of};
 ghost use Rattle.acct_program_args.specs.CommandLine.{app};
-ghost use Rattle.acct_program_args.specs.Orders.{AreKeptNames, ArePaths, HasBounds, IsExport};
-ghost use Rattle.acct_program_args.specs.Orders.{NamesJob};
-ghost use Rattle.acct_program_args.specs.Orders.{WordsAskFor};
+ghost use Rattle.acct_program_args.specs.Orders.{AreKeptNames, HasBounds, IsExport};
+ghost use Rattle.acct_program_args.specs.Orders.{NamesJob, WordsAskFor, WordsAskOfBook};
 
 use crate::commands::{PROGRAM, command_line};
 use crate::exports::export_named;
 use crate::forward_options::carrying_of;
-use crate::job::{Export, Job, KeptNames, Order, Paths};
+use crate::job::{BookJob, Export, Job, KeptNames, Order, Paths};
 use crate::options::{flag_option, text_option};
 use crate::serve_options::serving_of;
 use acct_model::Text;
@@ -59,7 +58,10 @@ fn asked(alloc: Global, name: &str, options: &ArgMatches<'_>) -> Result<Option<J
     let Some(database) = database else {
         return Ok(None);
     };
-    asked_of_book(alloc, name, Paths { config, database }, options)
+    match asked_of_book(alloc, name, options)? {
+        Some(job) => Ok(Some(Job::Book(Paths { config, database }, job))),
+        None => Ok(None),
+    }
 }
 
 // What the options of `check` ask for, if there is a book or no audit is asked for.
@@ -101,67 +103,53 @@ fn kept_names(alloc: Global, options: &ArgMatches<'_>) -> Result<KeptNames, Allo
 fn asked_of_book(
     alloc: Global,
     name: &str,
-    paths: Paths,
     options: &ArgMatches<'_>,
-) -> Result<Option<Job>, AllocError>
-    requires { ArePaths (rows_of (found_of options.now)) paths }
+) -> Result<Option<BookJob>, AllocError>
     ensures { IfOk result (λ job. IfSome job
-        (WordsAskFor name.now (rows_of (found_of options.now)))) }
+        (WordsAskOfBook name.now (rows_of (found_of options.now)))) }
 {
     match name {
-        "init" => Ok(Some(Job::Init {
-            paths,
+        "init" => Ok(Some(BookJob::Init {
             has_sums: flag_option(options, "page-sums"),
         })),
-        "serve" => asked_to_serve(alloc, paths, options),
-        "import" => Ok(Some(Job::Import { paths })),
-        "export" => Ok(asked_to_export(paths, options)),
-        "migrate" => Ok(Some(Job::Migrate { paths })),
-        "plans" => Ok(Some(Job::AddPlans { paths })),
-        "forward" => asked_to_carry(alloc, paths, options),
+        "serve" => asked_to_serve(alloc, options),
+        "import" => Ok(Some(BookJob::Import)),
+        "export" => Ok(asked_to_export(options)),
+        "migrate" => Ok(Some(BookJob::Migrate)),
+        "plans" => Ok(Some(BookJob::AddPlans)),
+        "forward" => asked_to_carry(alloc, options),
         _ => Ok(None),
     }
 }
 
 // What the options of `serve` ask for.
-fn asked_to_serve(
-    alloc: Global,
-    paths: Paths,
-    options: &ArgMatches<'_>,
-) -> Result<Option<Job>, AllocError>
-    requires { ArePaths (rows_of (found_of options.now)) paths }
+fn asked_to_serve(alloc: Global, options: &ArgMatches<'_>) -> Result<Option<BookJob>, AllocError>
     ensures { IfOk result (λ job. IfSome job
-        (WordsAskFor (codes "serve") (rows_of (found_of options.now)))) }
+        (WordsAskOfBook (codes "serve") (rows_of (found_of options.now)))) }
 {
     match serving_of(alloc, options)? {
-        Some(serving) => Ok(Some(Job::Serve { paths, serving })),
+        Some(serving) => Ok(Some(BookJob::Serve(serving))),
         None => Ok(None),
     }
 }
 
 // What the options of `forward` ask for.
-fn asked_to_carry(
-    alloc: Global,
-    paths: Paths,
-    options: &ArgMatches<'_>,
-) -> Result<Option<Job>, AllocError>
-    requires { ArePaths (rows_of (found_of options.now)) paths }
+fn asked_to_carry(alloc: Global, options: &ArgMatches<'_>) -> Result<Option<BookJob>, AllocError>
     ensures { IfOk result (λ job. IfSome job
-        (WordsAskFor (codes "forward") (rows_of (found_of options.now)))) }
+        (WordsAskOfBook (codes "forward") (rows_of (found_of options.now)))) }
 {
     match carrying_of(alloc, options)? {
-        Some(carrying) => Ok(Some(Job::Forward { paths, carrying })),
+        Some(carrying) => Ok(Some(BookJob::Forward(carrying))),
         None => Ok(None),
     }
 }
 
 // What the options of `export` ask for.
-fn asked_to_export(paths: Paths, options: &ArgMatches<'_>) -> Option<Job>
-    requires { ArePaths (rows_of (found_of options.now)) paths }
-    ensures { IfSome result (WordsAskFor (codes "export") (rows_of (found_of options.now))) }
+fn asked_to_export(options: &ArgMatches<'_>) -> Option<BookJob>
+    ensures { IfSome result (WordsAskOfBook (codes "export") (rows_of (found_of options.now))) }
 {
     let what = export_option(options)?;
-    Some(Job::Export { paths, what })
+    Some(BookJob::Export(what))
 }
 
 // What the options say that `export` writes.

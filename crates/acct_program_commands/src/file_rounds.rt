@@ -4,6 +4,7 @@
 ghost use Rattle.std.specs.Prelude.{◌≡◌, false};
 ghost use Rattle.acct_book.specs.Step.{OnlyLooks};
 ghost use Rattle.acct_program_commands.specs.Rounds.{GoesRound, KeepsAt, LooksAt};
+ghost use Rattle.acct_program_commands.specs.Rounds.{file_of, name_of};
 
 use crate::balances_file::KeptBalances;
 use crate::book_names::BookNames;
@@ -13,17 +14,15 @@ use crate::new_site::take_site;
 use crate::site_source::SiteSource;
 use acct_book::Book;
 use acct_reads::ReadsFiles;
-use acct_service::{Rounds, moment_of};
+use acct_service::Rounds;
 use acct_site::Config;
 use std::alloc::Global;
 use std::io::Write;
-use std::time::Clock;
 
 /// Polls the text of a server's configuration, and writes the file of all balances, if it has one.
-/// Prints to a writer, and notes in gauges what it finds. Reads the clock once in each call. If the
-/// text is no configuration, its source may explain why.
+/// Prints to a writer, and notes in gauges what it finds. Reads the clock of its source once in each
+/// call. If the text is no configuration, the source may explain why.
 pub struct FileRounds<'r, R, S: Drop, E: Drop> {
-    runtime: &'r R,
     source: S,
     balances: Option<KeptBalances<'r, R>>,
     names: Option<BookNames<'r, R>>,
@@ -34,7 +33,6 @@ pub struct FileRounds<'r, R, S: Drop, E: Drop> {
 impl<'r, R, S: Drop, E: Drop> Drop for FileRounds<'r, R, S, E> {
     fn drop(self) {
         let FileRounds {
-            runtime: _,
             source: _,
             balances: _,
             names: _,
@@ -44,10 +42,9 @@ impl<'r, R, S: Drop, E: Drop> Drop for FileRounds<'r, R, S, E> {
     }
 }
 
-impl<'r, R: ReplacesFiles + Clock, S: SiteSource + Drop, E: Write + Drop> FileRounds<'r, R, S, E> {
+impl<'r, R: ReplacesFiles, S: SiteSource + Drop, E: Write + Drop> FileRounds<'r, R, S, E> {
     /// Nothing was polled yet.
     pub fn new(
-        runtime: &'r R,
         source: S,
         balances: Option<KeptBalances<'r, R>>,
         names: Option<BookNames<'r, R>>,
@@ -56,7 +53,6 @@ impl<'r, R: ReplacesFiles + Clock, S: SiteSource + Drop, E: Write + Drop> FileRo
     ) -> FileRounds<'r, R, S, E>
         ensures source { result.source ≡ source }
         ensures whole { result ≡ record {
-          runtime = runtime.entry;
           source = source;
           balances = balances.entry;
           names = names.entry;
@@ -65,7 +61,6 @@ impl<'r, R: ReplacesFiles + Clock, S: SiteSource + Drop, E: Write + Drop> FileRo
         } }
     {
         FileRounds {
-            runtime,
             source,
             balances,
             names,
@@ -75,10 +70,20 @@ impl<'r, R: ReplacesFiles + Clock, S: SiteSource + Drop, E: Write + Drop> FileRo
     }
 }
 
-impl<'r, R: ReplacesFiles + Clock, S: SiteSource + Drop, E: Write + Drop> Rounds
+impl<'r, R: ReplacesFiles, S: SiteSource + Drop, E: Write + Drop> Rounds
     for FileRounds<'r, R, S, E> {
-    ghost goes = { λ old config gave new. GoesRound config.plans old.balances new.balances
-        old.names new.names (S.sights old.source) gave (S.sights new.source) };
+    ghost goes = { λ old config gave new. GoesRound config.plans
+        (record {
+          sights = S.sights old.source;
+          moments = S.moments old.source;
+          balances = file_of old.balances;
+          name = name_of old.names;
+        }) gave (record {
+          sights = S.sights new.source;
+          moments = S.moments new.source;
+          balances = file_of new.balances;
+          name = name_of new.names;
+        }) };
 
     ghost is_over = { λ _. false };
 
@@ -88,7 +93,7 @@ impl<'r, R: ReplacesFiles + Clock, S: SiteSource + Drop, E: Write + Drop> Rounds
         config: &Config,
         book: &mut B,
     ) -> Option<Config> {
-        let moment = moment_of(self.runtime);
+        let moment = self.source.moment();
         let (gauges, errors) = (self.gauges, &mut self.errors);
         keep_at(
             alloc,
@@ -125,7 +130,7 @@ pub fn keep_at<R: ReplacesFiles, B: Book, E: Write>(
     errors: &mut E,
 )
     ensures looks { OnlyLooks B.Book book.old book.new }
-    ensures keeps { KeepsAt moment balances.old balances.new }
+    ensures keeps { KeepsAt moment (file_of balances.old) (file_of balances.new) }
 {
     if let Some(balances) = balances {
         balances.keep(alloc, &config.plans, book, moment, gauges, errors);
@@ -139,7 +144,7 @@ fn look_at<R: ReadsFiles, E: Write>(
     gauges: &Gauges,
     errors: &mut E,
 )
-    ensures { LooksAt moment names.old names.new }
+    ensures { LooksAt moment (name_of names.old) (name_of names.new) }
 {
     if let Some(names) = names {
         names.look(moment, gauges, errors);

@@ -1,5 +1,5 @@
 //! The file of the configuration, which the server polls while it runs.
-ghost use Rattle.std.specs.Prelude.{◌≡◌, ◌∷◌, [], None, IsSome, IsTrue};
+ghost use Rattle.std.specs.Prelude.{◌≡◌, ◌∷◌, ◌<◌, ◌^◌, [], None, IsSome, IsTrue};
 ghost use Rattle.acct_service.specs.Told.{Grows};
 ghost use Rattle.acct_program_commands.specs.Looks.{LooksOnce};
 
@@ -9,9 +9,10 @@ use crate::site_source::SiteSource;
 use acct_model::{Octets, Text};
 use acct_program::InputFault;
 use acct_reads::ReadsFiles;
+use acct_service::moment_of;
 use std::alloc::Global;
 use std::os::unix::fs::MetadataExt;
-use std::time::SystemTime;
+use std::time::{Clock, SystemTime};
 
 /// The file of a configuration. It counts as changed if it is another file, or if its modification
 /// time, its length, its owner or its rights differ. It is polled at most once in a second.
@@ -74,8 +75,17 @@ impl<'a, R: ReadsFiles> SiteFile<'a, R> {
     }
 }
 
-impl<'a, R: ReadsFiles> SiteSource for SiteFile<'a, R> {
+impl<'a, R: ReadsFiles + Clock> SiteSource for SiteFile<'a, R> {
     ghost sights = { λ _. None };
+
+    ghost moments = { λ _. None };
+
+    fn moment(&mut self) -> u64
+        ensures bounded { result < 2 ^ 53 }
+        ensures kept { self.new ≡ self.old }
+    {
+        moment_of(self.runtime)
+    }
 
     fn look(&mut self, alloc: Global, moment: u64) -> Option<Result<Octets, InputFault>>
         ensures told { Grows None (result ∷ []) None }

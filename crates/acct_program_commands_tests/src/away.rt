@@ -18,6 +18,12 @@ struct Unchanged;
 impl SiteSource for Unchanged {
     ghost sights = { λ _. None };
 
+    ghost moments = { λ _. None };
+
+    fn moment(&mut self) -> u64 {
+        1000
+    }
+
     fn look(&mut self, _alloc: Global, _moment: u64) -> Option<Result<Octets, InputFault>> {
         None
     }
@@ -37,7 +43,7 @@ fn is_away(rt: &HostRuntime, is_moved: bool) -> Result<bool, Fail> {
     if is_moved {
         fs::rename(rt, BOOK, ELSEWHERE)?;
     }
-    let mut rounds = FileRounds::new(rt, Unchanged, None, Some(names), &gauges, &mut told);
+    let mut rounds = FileRounds::new(Unchanged, None, Some(names), &gauges, &mut told);
     let (config, mut book) = (sample_config(alloc)?, MemBook::new(alloc));
     if rounds.go_round(alloc, &config, &mut book).is_some() {
         return Err("another configuration".into());

@@ -16,8 +16,10 @@ use std::cell::Cell;
 use std::fs;
 use std::test::Fail;
 
-// The text that the round of a number finds, if it is another one, and when it was last polled.
+// The text that the round of a number finds, if it is another one, and when it was last polled, by
+// this clock.
 struct Said<'c> {
+    clock: &'c HostRuntime,
     number: &'c Cell<usize>,
     polled_at: &'c Cell<u64>,
 }
@@ -25,6 +27,7 @@ struct Said<'c> {
 impl<'c> Drop for Said<'c> {
     fn drop(self) {
         let Said {
+            clock: _,
             number: _,
             polled_at: _,
         } = self;
@@ -33,6 +36,12 @@ impl<'c> Drop for Said<'c> {
 
 impl<'c> SiteSource for Said<'c> {
     ghost sights = { λ _. None };
+
+    ghost moments = { λ _. None };
+
+    fn moment(&mut self) -> u64 {
+        moment_of(self.clock)
+    }
 
     fn look(&mut self, alloc: Global, moment: u64) -> Option<Result<Octets, InputFault>> {
         self.polled_at.set(moment);
@@ -185,10 +194,11 @@ fn each_round_writes_what_is_new(rt: HostRuntime) -> Result<(), Fail> {
     let (gauges, mut told) = (Gauges::new(), Vec::new(rt.alloc()));
     let kept = KeptBalances::new(&rt, rt.alloc(), &balances(rt.alloc())?)?;
     let source = Said {
+        clock: &rt,
         number: &number,
         polled_at: &polled_at,
     };
-    let mut rounds = FileRounds::new(&rt, source, Some(kept), None, &gauges, &mut told);
+    let mut rounds = FileRounds::new(source, Some(kept), None, &gauges, &mut told);
     assert!(rt; go_rounds(&rt, &mut rounds, (&number, &polled_at), &gauges)?);
     drop(rounds);
     assert!(rt; told.as_slice() == TOLD.as_bytes());

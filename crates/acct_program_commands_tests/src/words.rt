@@ -3,7 +3,7 @@ use acct_model::Text;
 use acct_program::Status;
 use acct_program::Status::{BadCommandLine, Done};
 use acct_program_args::{
-    Carrying, Job, KeptNames, Listening, Order, Paths, Serving, Telling, job_of, tell,
+    BookJob, Carrying, Job, KeptNames, Listening, Order, Paths, Serving, Telling, job_of, tell,
 };
 use std::alloc::{AllocError, Global};
 use std::cell::Cell;
@@ -318,20 +318,26 @@ fn shown_job(alloc: Global, job: &Job) -> Result<String, Fail> {
             kept,
             audits,
         } => shown_check(alloc, config, database, kept, *audits),
-        Job::Init { paths, has_sums } => {
+        Job::Book(paths, job) => shown_book_job(alloc, paths, job),
+    }
+}
+
+fn shown_book_job(alloc: Global, paths: &Paths, job: &BookJob) -> Result<String, Fail> {
+    match job {
+        BookJob::Init { has_sums } => {
             let paths = shown_paths(alloc, "init", paths)?;
             let mark = if *has_sums { " sums" } else { "" };
             Ok(format!(in alloc; "{paths}{mark}")?)
         }
-        Job::Serve { paths, serving } => shown_serving(alloc, paths, serving),
-        Job::Import { paths } => shown_paths(alloc, "import", paths),
-        Job::Export { paths, what } => {
+        BookJob::Serve(serving) => shown_serving(alloc, paths, serving),
+        BookJob::Import => shown_paths(alloc, "import", paths),
+        BookJob::Export(what) => {
             let paths = shown_paths(alloc, "export", paths)?;
             Ok(format!(in alloc; "{paths} {what:?}")?)
         }
-        Job::Migrate { paths } => shown_paths(alloc, "migrate", paths),
-        Job::AddPlans { paths } => shown_paths(alloc, "plans", paths),
-        Job::Forward { paths, carrying } => shown_carrying(alloc, paths, carrying),
+        BookJob::Migrate => shown_paths(alloc, "migrate", paths),
+        BookJob::AddPlans => shown_paths(alloc, "plans", paths),
+        BookJob::Forward(carrying) => shown_carrying(alloc, paths, carrying),
     }
 }
 

@@ -20,11 +20,12 @@ use Rattle.acct_program.specs.declared.status.Status.{Status}
 use Rattle.acct_program.specs.declared.status.Status.TheVariants as status
 use Rattle.acct_program_args.specs.declared.job.Job.{Job}
 use Rattle.acct_program_args.specs.declared.job.Job.TheVariants as job
+use Rattle.acct_program_args.specs.declared.job.BookJob.{BookJob}
+use Rattle.acct_program_args.specs.declared.job.BookJob.TheVariants as of_book
 use Rattle.acct_program_args.specs.declared.job.Export.{Export}
 use Rattle.acct_program_args.specs.declared.job.Carrying.{Carrying}
 use Rattle.acct_program_args.specs.declared.job.Listening.{Listening}
 use Rattle.acct_program_args.specs.declared.job.Serving.{Serving}
-use Rattle.acct_program_args.specs.Orders.{seconds_of}
 use Rattle.acct_program_commands.specs.Auditing.{Audits}
 use Rattle.acct_program_commands.specs.Checks.{IsNoConfig, TellsSizes, sizes_line}
 use Rattle.acct_program_commands.specs.Checks as check
@@ -271,12 +272,12 @@ module _ {D : Type 0} {g : disk.Ghosts D} where
     module _ {X M : Type 0} (b : book.Ghosts (Held (FileStore D g))) (x : exchange.Ghosts X)
         (IsBound : Listening → X → Type 0) (m : book.Ghosts M)
         (text before after : Option (List ℕ)) where
-      -- turns of a server, and an import at a moment, with a configuration
-      abbrev pub HasServed : Serving → Config → Result Status Fault → Held (FileStore D g)
-          → Held (FileStore D g) → Type 0
-      HasServed serving config =
-          RunsServer b x (IsBound serving.listening) None (seconds_of serving.oldest_report) config
-          serving.turns before after
+      -- turns of a server over the book of this name, and an import at a moment, with a
+      -- configuration
+      abbrev pub HasServed : List ℕ → Serving → Config → Result Status Fault
+          → Held (FileStore D g) → Held (FileStore D g) → Type 0
+      HasServed name serving config =
+          RunsServer b x (IsBound serving.listening) None None name serving config before after
 
       abbrev pub HasImported : ℕ → Config → Result Status Fault → Held (FileStore D g)
           → Held (FileStore D g) → Type 0
@@ -290,6 +291,28 @@ module _ {D : Type 0} {g : disk.Ghosts D} where
       HasForwarded carrying moment written_at config ended first last =
           Forwards b config.plans carrying moment written_at first last ended
 
+      -- what is done with the book of this name
+      abbrev pub DoesBookJob : List ℕ → BookJob → Result Status Fault → Left D g → Type 0
+      DoesBookJob name (of_book.Init has_sums) ended rest =
+          ClosesOrFails (MakesNew b has_sums before after) (FailsToMakeNew has_sums) ended rest
+      DoesBookJob name (of_book.Serve serving) ended rest =
+          KeepsOthers serving.telling.status serving.telling.balances before after ended rest
+          ⊎ ClosesOrFails (WorksAndCloses (HasServed name serving))
+          (FailsAtWork (HasServed name serving)) ended rest
+      DoesBookJob name of_book.Import ended rest = (moment : ℕ) × (moment < 2 ^ 53)
+          × ClosesOrFails (WorksAndCloses (HasImported moment)) (FailsAtWork (HasImported moment))
+          ended rest
+      DoesBookJob name (of_book.Forward carrying) ended rest =
+          (moment : ℕ) × (written_at : ℕ) × (moment < 2 ^ 53)
+          × ClosesOrFails (WorksAndCloses (HasForwarded carrying moment written_at))
+          (FailsAtWork (HasForwarded carrying moment written_at)) ended rest
+      DoesBookJob name (of_book.Export what) ended rest =
+          ExportsBook b what before after ended rest ⊎ ExportsNothing b ended rest
+      DoesBookJob name of_book.Migrate ended rest =
+          ClosesOrFails (Migrates b before after) FailsToMigrate ended rest
+      DoesBookJob name of_book.AddPlans ended rest =
+          ClosesOrFails (AddsPlans b before after) FailsToAdd ended rest
+
       abbrev pub DoesJob : Job → Result Status Fault → Left D g → Type 0
       DoesJob (job.Feed file) ended rest =
           (ended ≡ Ok status.Done
@@ -298,22 +321,4 @@ module _ {D : Type 0} {g : disk.Ghosts D} where
       DoesJob (job.Check file database kept audits) ended rest =
           KeepsOthers kept.status kept.balances before after ended rest
           ⊎ ChecksOrAudits b before after audits database ended rest
-      DoesJob (job.Init paths has_sums) ended rest =
-          ClosesOrFails (MakesNew b has_sums before after) (FailsToMakeNew has_sums) ended rest
-      DoesJob (job.Serve paths serving) ended rest =
-          KeepsOthers serving.telling.status serving.telling.balances before after ended rest
-          ⊎ ClosesOrFails (WorksAndCloses (HasServed serving)) (FailsAtWork (HasServed serving))
-          ended rest
-      DoesJob (job.Import paths) ended rest = (moment : ℕ) × (moment < 2 ^ 53)
-          × ClosesOrFails (WorksAndCloses (HasImported moment)) (FailsAtWork (HasImported moment))
-          ended rest
-      DoesJob (job.Forward paths carrying) ended rest =
-          (moment : ℕ) × (written_at : ℕ) × (moment < 2 ^ 53)
-          × ClosesOrFails (WorksAndCloses (HasForwarded carrying moment written_at))
-          (FailsAtWork (HasForwarded carrying moment written_at)) ended rest
-      DoesJob (job.Export paths what) ended rest =
-          ExportsBook b what before after ended rest ⊎ ExportsNothing b ended rest
-      DoesJob (job.Migrate paths) ended rest =
-          ClosesOrFails (Migrates b before after) FailsToMigrate ended rest
-      DoesJob (job.AddPlans paths) ended rest =
-          ClosesOrFails (AddsPlans b before after) FailsToAdd ended rest
+      DoesJob (job.Book paths asked) ended rest = DoesBookJob paths.database asked ended rest

@@ -16,6 +16,7 @@ use acct_model::Text;
 use acct_program::Status;
 use acct_program_args::KeptNames;
 use acct_program_commands::{Fault, ServerFiles, keep_others, run_check, write_sizes};
+use acct_program_serving::Errors;
 use acct_sql::SqlBook;
 use sqlite::{FileFrom, FileStore, Start};
 use std::io::Write;
@@ -67,13 +68,13 @@ impl<'a> Checking<'a> {
 
 /// `check` of the configuration in a file, and of the files that a server will write. If a book in
 /// another file is given, it must keep the plans of the configuration. If it is audited, its
-/// balances must be right. It does not change.
+/// balances must be right. It does not change. The progress of an audit goes to the notices.
 pub(crate) fn check<S: Start, W: Write + Drop, E: Write + Drop>(
     runtime: &HostRuntime,
     checking: Checking<'_>,
     kept: &KeptNames,
     output: W,
-    progress: E,
+    errors: Errors<E>,
     start: S,
 ) -> Outcome<W, FileFrom<S>>
     ensures other { IfOk result.ended (λ status. status ≢ Status.BadCommandLine) }
@@ -84,7 +85,7 @@ pub(crate) fn check<S: Start, W: Write + Drop, E: Write + Drop>(
         (option_copied checking.entry.database) result.ended result.left }
 {
     match keep_others(runtime, files_of(checking, kept)) {
-        Ok(()) => check_or_audit(runtime, checking, output, progress, start),
+        Ok(()) => check_or_audit(runtime, checking, output, errors.notices, start),
         Err(fault) => without_book(Err(fault), output),
     }
 }

@@ -3,17 +3,16 @@
 //! `export` only reads the book, and leaves its files as they are. The other jobs that keep a book
 //! close it at their end.
 ghost use Rattle.std.specs.Prelude.{◌≢◌, ◌≡◌, ◌⊎◌, ℕ, Ok, Err, IfOk, IfErr};
-ghost use Rattle.std.specs.Prelude.{true, false, None, Some, List, Option};
+ghost use Rattle.std.specs.Prelude.{true, false, None, Some, IsSome, List, Option};
 ghost use Rattle.sqlite_wal.specs.Files.{image_at};
 ghost use Rattle.acct_site.specs.declared.config.Config.{Config};
-ghost use Rattle.acct_program_args.specs.declared.job.Paths.{Paths};
 ghost use Rattle.acct_program_args.specs.Orders.{HasBounds, IsBounded};
 ghost use Rattle.acct_program_commands.specs.Endings.{ended_status};
 ghost use Rattle.acct_program_jobs.specs.Commands.{Worked, WritesOut, FailsToExport, refused};
 ghost use Rattle.acct_book.specs.Step.{Looks};
 ghost use Rattle.acct_program_commands.specs.Exports.{IsExportFault};
 ghost use Rattle.acct_program_serving.specs.Serving.{IsBoundTo};
-ghost use Rattle.acct_program_jobs.specs.Jobs.{DoesJob, HasNoConfig};
+ghost use Rattle.acct_program_jobs.specs.Jobs.{DoesBookJob, DoesJob, HasNoConfig};
 ghost use Rattle.acct_program_jobs.specs.Jobs.{ExportsBook, ExportsNothing, FeedsScript};
 ghost use Rattle.acct_program_jobs.specs.Jobs.{text_of, IsSiteOf};
 ghost use Rattle.acct_program_commands.specs.Checks.{IsUnchecked};
@@ -32,13 +31,11 @@ use acct_book::Book;
 use acct_model::{Plans, Text};
 use acct_net::Sockets;
 use acct_program::Status;
-use acct_program_args::{Export, Job, Order, Serving, Telling};
-use acct_program_commands::{
-    Fault, ServerFiles, end, keep_others, read_clock, read_config, run_export,
-};
+use acct_program_args::{BookJob, Export, Job, Order, Serving, Telling};
+use acct_program_commands::{Fault, ServerFiles, end, keep_others, read_config, run_export};
 use acct_program_serving::Errors;
 use acct_reads::ReadsFiles;
-use acct_service::{Exchange, moment_of};
+use acct_service::Exchange;
 use acct_site::{Config, sample_config};
 use acct_sql::SqlBook;
 use sqlite::{Alter, Connection, FileFrom, FileStore, Files, MemStore, Start};
@@ -103,7 +100,7 @@ pub fn carry_out<S: Start, I: Read + Drop, W: Write + Drop, E: Write + Drop, F: 
     ensures does { DoesJob (image_at S.Start) ⟦<SqlBook<FileStore<FileFrom<S>>> as Book>⟧
         ⟦<Sockets<'static, HostRuntime> as Exchange>⟧
         (λ listening s. IsBoundTo listening s.event_loop.datagrams.sockets.items
-        s.event_loop.desk.door.address s.event_loop.desk.door.port)
+        s.event_loop.desk.door.address s.event_loop.desk.door.port × IsSome s.silenced)
         ⟦<SqlBook<MemStore> as Book>⟧
         (I.remaining streams.input) (W.contents streams.output)
         (text_of W.contents result.1.output) order.now.job result.1.ended result.1.left }
@@ -113,11 +110,10 @@ pub fn carry_out<S: Start, I: Read + Drop, W: Write + Drop, E: Write + Drop, F: 
         mut output,
         errors,
     } = streams;
-    let loses = order.loses_commits;
-    match &order.job {
+    let outcome = match &order.job {
         Job::Feed { config } => {
             let ended = feed(runtime, config.as_ref(), input, &mut output);
-            told(faults, without_book(ended, output))
+            without_book(ended, output)
         }
         Job::Check {
             config,
@@ -125,43 +121,33 @@ pub fn carry_out<S: Start, I: Read + Drop, W: Write + Drop, E: Write + Drop, F: 
             kept,
             audits,
         } => {
-            let checking = Checking::of(config, database.as_ref(), *audits, loses);
-            let checked = check(runtime, checking, kept, output, errors.notices, start);
-            told(faults, checked)
+            let checking = Checking::of(config, database.as_ref(), *audits, order.loses_commits);
+            check(runtime, checking, kept, output, errors, start)
         }
-        Job::Serve { paths, serving } => {
-            let files = BookFile::of(paths, loses);
-            let served = serve_files(runtime, files, serving, output, errors, start);
-            told(faults, served)
+        Job::Book(paths, job) => {
+            let files = BookFile::of(paths, order.loses_commits);
+            match job {
+                BookJob::Init { has_sums } => {
+                    make(runtime, Making::new(*has_sums), files, output, start)
+                }
+                BookJob::Serve(serving) => {
+                    serve_files(runtime, files, serving, output, errors, start)
+                }
+                BookJob::Import => {
+                    let import = Import::now(runtime, input);
+                    work_on(runtime, files, import, output, start)
+                }
+                BookJob::Export(what) => export(runtime, files, *what, output, start),
+                BookJob::Migrate => make(runtime, Making::Migrated, files, output, start),
+                BookJob::AddPlans => make(runtime, Making::Extended, files, output, start),
+                BookJob::Forward(carrying) => {
+                    let forward = Forward::now(runtime, files.database, carrying, errors);
+                    work_on(runtime, files, forward, output, start)
+                }
+            }
         }
-        Job::Import { paths } => {
-            let (files, moment) = (BookFile::of(paths, loses), moment_of(runtime));
-            let import = Import { moment, input };
-            told(faults, work_on(runtime, files, import, output, start))
-        }
-        Job::Forward { paths, carrying } => {
-            let files = BookFile::of(paths, loses);
-            let clock = read_clock(runtime, &paths.database);
-            let forward = Forward::new(carrying, clock, errors.notices);
-            told(faults, work_on(runtime, files, forward, output, start))
-        }
-        Job::Export { paths, what } => {
-            let files = BookFile::of(paths, loses);
-            told(faults, export(runtime, files, *what, output, start))
-        }
-        Job::Init { paths, has_sums } => {
-            let (files, making) = (BookFile::of(paths, loses), Making::new(*has_sums));
-            told(faults, make(runtime, making, files, output, start))
-        }
-        Job::Migrate { paths } => {
-            let (files, making) = (BookFile::of(paths, loses), Making::Migrated);
-            told(faults, make(runtime, making, files, output, start))
-        }
-        Job::AddPlans { paths } => {
-            let (files, making) = (BookFile::of(paths, loses), Making::Extended);
-            told(faults, make(runtime, making, files, output, start))
-        }
-    }
+    };
+    told(faults, outcome)
 }
 
 /// Serves the book of a file, as `carry_out` does, but prints no fault. A program that assumes
@@ -177,14 +163,14 @@ pub fn serve_files<S: Start, W: Write + Drop, E: Write + Drop>(
 ) -> Outcome<W, FileFrom<S>>
     requires { IsBounded serving.now }
     ensures other { IfOk result.ended (λ status. status ≢ Status.BadCommandLine) }
-    ensures does { (paths : Paths) → (text : Option (List ℕ)) → DoesJob (image_at S.Start)
+    ensures does { (text : Option (List ℕ)) → DoesBookJob (image_at S.Start)
         ⟦<SqlBook<FileStore<FileFrom<S>>> as Book>⟧
         ⟦<Sockets<'static, HostRuntime> as Exchange>⟧
         (λ listening s. IsBoundTo listening s.event_loop.datagrams.sockets.items
-        s.event_loop.desk.door.address s.event_loop.desk.door.port)
+        s.event_loop.desk.door.address s.event_loop.desk.door.port × IsSome s.silenced)
         ⟦<SqlBook<MemStore> as Book>⟧
         text (W.contents output) (text_of W.contents result.output)
-        (Job.Serve paths serving.now) result.ended result.left }
+        files.entry.database.now (BookJob.Serve serving.now) result.ended result.left }
 {
     match keep_others(runtime, files_of_server(files, &serving.telling)) {
         Ok(()) => {

@@ -1,5 +1,5 @@
 //! The file of the configuration, and what `--explain` adds if a server refuses it while it runs.
-ghost use Rattle.std.specs.Prelude.{◌≡◌, ◌∷◌, [], None, IsSome};
+ghost use Rattle.std.specs.Prelude.{◌≡◌, ◌∷◌, ◌<◌, ◌^◌, [], None, IsSome};
 ghost use Rattle.acct_service.specs.Told.{Grows};
 ghost use Rattle.acct_program_commands.specs.Looks.{LooksOnce};
 
@@ -10,6 +10,7 @@ use acct_program_explain::{Explained, explain};
 use acct_reads::ReadsFiles;
 use std::alloc::Global;
 use std::io::Write;
+use std::time::Clock;
 
 /// The file of a configuration. It explains why its text is no configuration, if that is asked for.
 #[derive(Drop)]
@@ -35,8 +36,17 @@ impl<'a, R: ReadsFiles> ExplainedSite<'a, R> {
     }
 }
 
-impl<'a, R: ReadsFiles> SiteSource for ExplainedSite<'a, R> {
+impl<'a, R: ReadsFiles + Clock> SiteSource for ExplainedSite<'a, R> {
     ghost sights = { λ _. None };
+
+    ghost moments = { λ _. None };
+
+    fn moment(&mut self) -> u64
+        ensures bounded { result < 2 ^ 53 }
+        ensures kept { self.new ≡ self.old }
+    {
+        self.file.moment()
+    }
 
     fn look(&mut self, alloc: Global, moment: u64) -> Option<Result<Octets, InputFault>>
         ensures told { Grows None (result ∷ []) None }

@@ -1,6 +1,6 @@
 //! The commands that work on the book of a file, and close it at their end.
 ghost use Rattle.std.specs.Prelude.{◌≢◌, ◌≡◌, ◌<◌, ◌≤◌, ◌^◌, ℕ, List, Option, Result};
-ghost use Rattle.std.specs.Prelude.{Ok, None, IfOk, IfErr, IfSome};
+ghost use Rattle.std.specs.Prelude.{Ok, None, IfOk, IfErr, IfSome, IsSome};
 ghost use Rattle.sqlite_wal.specs.Files.{image_at};
 ghost use Rattle.acct_book.specs.declared.book.Book as book;
 ghost use Rattle.acct_site.specs.declared.config.Config.{Config};
@@ -8,7 +8,7 @@ ghost use Rattle.acct_program.specs.declared.status.Status.{Status};
 ghost use Rattle.acct_program_commands.specs.declared.fault.Fault.{Fault};
 ghost use Rattle.acct_program_commands.specs.Imports.{Runs};
 ghost use Rattle.acct_program_commands.specs.Forwarding.{Forwards};
-ghost use Rattle.acct_program_args.specs.Orders.{IsBounded, seconds_of};
+ghost use Rattle.acct_program_args.specs.Orders.{IsBounded};
 ghost use Rattle.acct_program_serving.specs.Serving.{IsBoundTo, RunsServer};
 ghost use Rattle.acct_program_jobs.specs.Files.{Copies};
 ghost use Rattle.acct_program_jobs.specs.Commands.{IsNotClosed};
@@ -24,14 +24,15 @@ use acct_model::Text;
 use acct_net::Sockets;
 use acct_program::Status;
 use acct_program_args::{Carrying, Serving};
-use acct_program_commands::{ClockReading, Fault, run_forward, run_import};
-use acct_program_serving::{Surroundings, run_serve};
+use acct_program_commands::{ClockReading, Fault, read_clock, run_forward, run_import};
+use acct_program_serving::{Errors, Surroundings, run_serve};
 use acct_reads::ReadsFiles;
-use acct_service::Exchange;
+use acct_service::{Exchange, moment_of};
 use acct_site::Config;
 use acct_sql::SqlBook;
 use sqlite::{FileFrom, FileStore, Start};
 use std::io::{Read, Write};
+use std::time::Clock;
 
 /// What a command does with an open book, and what it prints.
 pub(crate) trait Work<W: Write> {
@@ -60,8 +61,21 @@ pub(crate) trait Work<W: Write> {
 /// `import` at a moment, in seconds since 1970.
 #[derive(Drop)]
 pub(crate) struct Import<I: Drop> {
-    pub(crate) moment: u64,
-    pub(crate) input: I,
+    moment: u64,
+    input: I,
+}
+
+impl<I: Read + Drop> Import<I> {
+    /// The lines of an input, at the clock's moment.
+    pub(crate) fn now<R: Clock>(runtime: &R, input: I) -> Import<I>
+        ensures moment { result.moment < 2 ^ 53 }
+        ensures input { result.input ≡ input }
+    {
+        Import {
+            moment: moment_of(runtime),
+            input,
+        }
+    }
 }
 
 impl<W: Write, I: Read + Drop> Work<W> for Import<I> {
@@ -85,20 +99,28 @@ impl<W: Write, I: Read + Drop> Work<W> for Import<I> {
 /// `forward` by a clock.
 #[derive(Drop)]
 pub(crate) struct Forward<'a, E: Drop> {
-    pub(crate) carrying: &'a Carrying,
-    pub(crate) clock: ClockReading,
-    pub(crate) progress: E,
+    carrying: &'a Carrying,
+    clock: ClockReading,
+    progress: E,
 }
 
 impl<'a, E: Drop> Forward<'a, E> {
-    /// What was asked, by what a clock says. Its progress is printed.
-    pub(crate) fn new(carrying: &'a Carrying, clock: ClockReading, progress: E) -> Forward<'a, E>
-        ensures { result ≡ record { carrying = carrying.entry; clock = clock; progress = progress } }
+    /// What was asked, by what the clock says now of the book in a file. Its progress is printed
+    /// among the notices.
+    pub(crate) fn now<R: ReadsFiles + Clock + AllocGlobal>(
+        runtime: &R,
+        file: &Text,
+        carrying: &'a Carrying,
+        errors: Errors<E>,
+    ) -> Forward<'a, E>
+        ensures moment { result.clock.moment < 2 ^ 53 }
+        ensures carrying { result.carrying ≡ carrying.entry }
+        ensures progress { result.progress ≡ errors.notices }
     {
         Forward {
             carrying,
-            clock,
-            progress,
+            clock: read_clock(runtime, file),
+            progress: errors.notices,
         }
     }
 }
@@ -142,16 +164,16 @@ pub(crate) struct Server<'a, R, E: Drop> {
     pub(crate) around: Surroundings<ExplainedSite<'a, R>, E>,
 }
 
-impl<R: ReadsFiles, W: Write, E: Write + Drop> Work<W> for Server<'_, R, E> {
+impl<R: ReadsFiles + Clock, W: Write, E: Write + Drop> Work<W> for Server<'_, R, E> {
     ghost is_ready = { λ it. IsBounded it.serving.now };
 
-    // The file of the configuration is polled. No contract can say what it holds.
+    // The file of the configuration is polled, and the clock is read. No contract can say what they
+    // show.
     ghost did = { λ b it config ended first last before after. RunsServer b
         ⟦<Sockets<'static, HostRuntime> as Exchange>⟧
         (λ s. IsBoundTo it.serving.now.listening s.event_loop.datagrams.sockets.items
-        s.event_loop.desk.door.address s.event_loop.desk.door.port)
-        None (seconds_of it.serving.now.oldest_report) config it.serving.now.turns before after
-        ended first last };
+        s.event_loop.desk.door.address s.event_loop.desk.door.port × IsSome s.silenced)
+        None None it.file.now it.serving.now config before after ended first last };
 
     fn over<B: Book>(
         self,

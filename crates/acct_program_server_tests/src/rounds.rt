@@ -3,7 +3,7 @@ ghost use Rattle.std.specs.Prelude.{◌<◌, ◌^◌};
 
 use acct_book::MemBook;
 use acct_model::{Octets, Text};
-use acct_program_commands::{FileRounds, Gauges, SiteFile, config_from};
+use acct_program_commands::{FileRounds, Gauges, KeptBalances, SiteFile, config_from};
 use acct_service::lists::{ListExchange, Planned};
 use acct_service::{Call, Event, Rounds, Rules, Served, Until, What, serve_in_slices};
 use acct_site::Config;
@@ -117,7 +117,8 @@ fn answers_by_what_is_new(rt: HostRuntime) -> Result<(), Fail> {
     fs::write(&rt, name, NEW)?;
     let mut told = Vec::new(rt.alloc());
     let gauges = Gauges::new();
-    let mut rounds = FileRounds::new(&rt, site, None, None, &gauges, &mut told);
+    let balances: Option<KeptBalances<'_, HostRuntime>> = None;
+    let mut rounds = FileRounds::new(site, balances, None, &gauges, &mut told);
     let is_served = serves_old_and_new(rt.alloc(), &mut rounds)?;
     drop(rounds);
     let wanted = "config: read again: 1 clients, 1 plans, 1 keys\n";

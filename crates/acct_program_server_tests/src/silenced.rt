@@ -57,6 +57,12 @@ impl Sender<'_> {
 impl SiteSource for Sender<'_> {
     ghost sights = { λ _. None };
 
+    ghost moments = { λ _. None };
+
+    fn moment(&mut self) -> u64 {
+        1000
+    }
+
     fn look(&mut self, _alloc: Global, _moment: u64) -> Option<Result<Octets, InputFault>> {
         match self.send() {
             Ok(()) => None,

@@ -7,7 +7,7 @@ use crate::stuck_book::StuckBook;
 use acct_book::{Book, MemBook};
 use acct_model::Octets;
 use acct_program::InputFault;
-use acct_program_commands::{FileRounds, Gauges, SiteSource};
+use acct_program_commands::{FileRounds, Gauges, KeptBalances, SiteSource};
 use acct_program_serving::{Ended, serve_exchange};
 use acct_service::lists::{ListExchange, Planned};
 use acct_service::{
@@ -31,6 +31,12 @@ impl Drop for Alternating<'_> {
 
 impl SiteSource for Alternating<'_> {
     ghost sights = { λ _. None };
+
+    ghost moments = { λ _. None };
+
+    fn moment(&mut self) -> u64 {
+        1000
+    }
 
     fn look(&mut self, alloc: Global, _moment: u64) -> Option<Result<Octets, InputFault>> {
         let looks = self.looks.get();
@@ -117,7 +123,8 @@ fn has_a_round_each(rt: &HostRuntime, looks: &Cell<u64>) -> Result<bool, Fail> {
     let mut exchange = ListExchange::new(alloc, turns(alloc, 5_220, false)?);
     let mut book = MemBook::new(alloc);
     let (gauges, told) = (Gauges::new(), Vec::new(alloc));
-    let mut rounds = FileRounds::new(rt, Alternating { looks }, None, None, &gauges, told);
+    let balances: Option<KeptBalances<'_, HostRuntime>> = None;
+    let mut rounds = FileRounds::new(Alternating { looks }, balances, None, &gauges, told);
     let rules = Rules {
         config: &config,
         oldest: None,

@@ -83,6 +83,12 @@ impl Drop for Stage<'_> {
 impl SiteSource for Stage<'_> {
     ghost sights = { λ _. None };
 
+    ghost moments = { λ _. None };
+
+    fn moment(&mut self) -> u64 {
+        self.file.moment()
+    }
+
     fn look(&mut self, alloc: Global, moment: u64) -> Option<Result<Octets, InputFault>> {
         if self.act(alloc).is_err() {
             let _ = writeln!(self.story, "fault");

@@ -10,18 +10,19 @@ use Rattle.acct_service.specs.Slices.{Slice, GoRounds, ServesInSlices}
 use Rattle.acct_service.specs.declared.exchange.Call.{Call}
 use Rattle.acct_service.specs.declared.server.Served.{Served}
 use Rattle.acct_service.specs.declared.slices.Until.{Until}
-use Rattle.acct_program_commands.specs.NewSite.{LooksAndTakes}
 use Rattle.acct_program_commands.specs.Sights.{Sight}
 use Rattle.acct_program_args.specs.declared.job.BalancesFile.{BalancesFile}
+use Rattle.acct_program_args.specs.declared.job.Serving.{Serving}
+use Rattle.acct_program_args.specs.Orders.{seconds_of}
 use Rattle.acct_program_commands.specs.Fresh.{IsDue}
-use Rattle.acct_program_commands.specs.Rounds.{KeepsAt}
+use Rattle.acct_program_commands.specs.Rounds.{GoesRound, KeepsAt, RoundState, file_of}
 use Rattle.acct_program_commands.specs.Unwritten.{IsBegun}
 use Rattle.acct_program_commands.specs.declared.balances_file.KeptBalances.{KeptBalances}
-use Rattle.acct_program_serving.specs.Files.{IsKept, HasKept}
+use Rattle.acct_program_serving.specs.Files.{Begins, IsKept, HasKept}
 use Rattle.acct_program_serving.specs.declared.ended.Ended.{Ended}
 use Rattle.acct_program_serving.specs.declared.ended.Ended.TheVariants as how
 use Rattle.acct_program_serving.specs.Runs.{Ran}
-use Rattle.acct_program_serving.specs.Serving.{EndsOver, EndsAfresh, PollsAfter}
+use Rattle.acct_program_serving.specs.Serving.{EndsOver, EndsAfresh, RoundsAfter}
 
 -- two exchanges count and record the same
 pub record Agrees {X Y : Type 0} (x : exchange.Ghosts X) (y : exchange.Ghosts Y) (one : X)
@@ -70,15 +71,18 @@ module _ {B X Y : Type 0} (b : book.Ghosts B) (x : exchange.Ghosts X) (y : excha
     },
   )
 
--- rounds that each take what they take from one more poll are polls
-pub polls : {R : Type 0} (r : rounds.Ghosts R) (seen : R → Option (List Sight))
+-- rounds whose state goes on so go on so
+pub rounds_after : {R : Type 0} (r : rounds.Ghosts R) (known : R → RoundState)
     (each : (old : R) (config : Config) (gave : Option Config) (new : R)
-    → r.goes old config gave new → LooksAndTakes config.plans (seen old) gave (seen new))
+    → r.goes old config gave new → GoesRound config.plans (known old) gave (known new))
     (first : R) (slices : List Slice) (last : R) → GoRounds r first slices last
-    → PollsAfter (seen first) slices (seen last)
-polls r seen each first [] last same = ap seen same
-polls r seen each first (slice ∷ later) last (next, goes, on, rest) =
-    (seen next, each first slice.site slice.given next goes, polls r seen each next later last rest)
+    → RoundsAfter (known first) slices (known last)
+rounds_after r known each first [] last same = ap known same
+rounds_after r known each first (slice ∷ later) last (next, goes, on, rest) = (
+  known next,
+  each first slice.site slice.given next goes,
+  rounds_after r known each next later last rest,
+)
 
 -- a run of slices, whose rounds went another way, too
 however : {B : Type 0} (b : book.Ghosts B) (oldest : Option ℕ) (config : Config) (old new : B)
@@ -99,31 +103,36 @@ however b oldest config old new told later Went Goes so limit made served why ru
 }
 
 module _ {B X : Type 0} (b : book.Ghosts B) (x : exchange.Ghosts X) (IsBound : X → Type 0)
-    (seen polled : Option (List Sight)) (oldest : Option ℕ) (config : Config) (turns : ℕ)
-    (Went : List Slice → Type 0)
-    (so : (slices : List Slice) → Went slices → PollsAfter seen slices polled)
+    (sights : Option (List Sight)) (moments : Option (List ℕ)) (path : List ℕ) (serving : Serving)
+    (known then : RoundState)
+    (begins : Begins serving.telling.balances sights moments
+    (Some (record { path = path; looked_at = None })) known)
+    (config : Config) (Went : List Slice → Type 0)
+    (so : (slices : List Slice) → Went slices → RoundsAfter known slices then)
     (before_all old new : B) (looked : OnlyLooks b before_all old) (first last : X)
     (bound : IsBound first) (fresh : x.turn_count first ≡ 0)
     (faultless : x.failure_count first ≡ 0) where
   ran_however : (served : Served) (why : Until)
-      → Ran b x oldest config turns Went old new first last served why
-      → Ran b x oldest config turns (λ slices. PollsAfter seen slices polled) old new first last
+      → Ran b x (seconds_of serving.oldest_report) config serving.turns Went old new first last
       served why
+      → Ran b x (seconds_of serving.oldest_report) config serving.turns
+      (λ slices. RoundsAfter known slices then) old new first last served why
   ran_however served why ran = record {
     turns_made = ran.turns_made;
     shut = ran.shut;
     stuck = ran.stuck;
     open_is = ran.open_is;
     faults = ran.faults;
-    run = however b oldest config old new (x.told first) (x.told last) Went
-        (λ slices. PollsAfter seen slices polled) so turns (x.turn_count last - x.turn_count first) served why
-        ran.run;
+    run = however b (seconds_of serving.oldest_report) config old new (x.told first) (x.told last)
+        Went (λ slices. RoundsAfter known slices then) so serving.turns
+        (x.turn_count last - x.turn_count first) served why ran.run;
   }
 
   ends_however : (before after : Option (List ℕ)) (ended : Ended)
-      → EndsOver b x oldest config turns Went old new first last before after ended
-      → EndsOver b x oldest config turns (λ slices. PollsAfter seen slices polled) old new first
-      last before after ended
+      → EndsOver b x (seconds_of serving.oldest_report) config serving.turns Went old new first last
+      before after ended
+      → EndsOver b x (seconds_of serving.oldest_report) config serving.turns
+      (λ slices. RoundsAfter known slices then) old new first last before after ended
   ends_however before after (how.Told served why) (ran, printed) =
       (ran_however served why ran, printed)
   ends_however before after (how.Untold served why) ran = ran_however served why ran
@@ -131,8 +140,10 @@ module _ {B X : Type 0} (b : book.Ghosts B) (x : exchange.Ghosts X) (IsBound : X
 
   -- a server ended so over an exchange that had made no turn and no fault
   pub ends_afresh : (before after : Option (List ℕ)) (ended : Ended)
-      → EndsOver b x oldest config turns Went old new first last before after ended
-      → EndsAfresh b x IsBound seen oldest config turns before_all new last before after ended
+      → EndsOver b x (seconds_of serving.oldest_report) config serving.turns Went old new first last
+      before after ended
+      → EndsAfresh b x IsBound sights moments path serving config before_all new last before after
+      ended
   ends_afresh before after ended ends = record {
     begun = old;
     looked = looked;
@@ -140,20 +151,21 @@ module _ {B X : Type 0} (b : book.Ghosts B) (x : exchange.Ghosts X) (IsBound : X
     bound = bound;
     fresh = fresh;
     faultless = faultless;
-    polled = polled;
+    known = known;
+    begins = begins;
+    then = then;
     ends = ends_however before after ended ends;
   }
 
 -- a file of balances that was first due at a moment, and was written then
 pub kept_first : {R : Type 0} (named : Option BalancesFile) (old new : Option (KeptBalances R))
-    (moment : ℕ) → IsKept named old → KeepsAt moment old new → HasKept named new
+    (moment : ℕ) → IsKept named old → KeepsAt moment (file_of old) (file_of new)
+    → HasKept named moment (file_of new)
 kept_first None None None moment same keeps = tt
 kept_first None None (Some new) moment same keeps = absurd (cc)
 kept_first None (Some old) new moment same keeps = elim same [ ]
 kept_first (Some file) None new moment same keeps = elim same [ ]
 kept_first (Some file) (Some old) None moment same keeps = elim keeps [ ]
-kept_first (Some file) (Some old) (Some new) moment same (due, idle) = (
-  moment,
-  subst (λ was. IsBegun (Some moment) was new.file) same
-      (due (subst (λ was. IsDue was.pause was.begun_at moment) (sym same) tt)),
-)
+kept_first (Some file) (Some old) (Some new) moment same (due, idle) =
+    subst (λ was. IsBegun (Some moment) was new.file) same
+    (due (subst (λ was. IsDue was.pause was.begun_at moment) (sym same) tt))

@@ -1,11 +1,14 @@
--- The files that a server writes, and what it begins with between its slices of turns.
-use Rattle.std.specs.Prelude.{◌≡◌, ⊤, List, ℕ, Option, Some, None, IsSomeAnd}
+-- The files that a server writes, and what its rounds begin with.
+use Rattle.std.specs.Prelude.{◌≡◌, ⊤, List, [], ◌∷◌, ℕ, Option, Some, None}
 use Rattle.acct_program_args.specs.declared.job.BalancesFile.{BalancesFile}
+use Rattle.acct_program_commands.specs.Rounds.{RoundState, NameSeen}
+use Rattle.acct_program_commands.specs.Sights.{Sight}
 use Rattle.acct_program_commands.specs.Tally.{no_tally}
 use Rattle.acct_program_commands.specs.Unwritten.{unwritten, IsBegun}
 use Rattle.acct_program_commands.specs.declared.balances_file.KeptBalances.{KeptBalances}
-use Rattle.acct_program_commands.specs.declared.file_rounds.FileRounds.{FileRounds}
+use Rattle.acct_program_commands.specs.declared.fresh_file.FreshFile.{FreshFile}
 use Rattle.acct_program_commands.specs.declared.status_file.StatusFile.{StatusFile}
+use Rattle.acct_service.specs.Told.{Grows}
 
 -- The file of all balances is the one that was named, with its seconds, if one was: its owner may
 -- write it and its group may read it.
@@ -24,18 +27,20 @@ IsCounted (Some name) book None = ⊥
 IsCounted (Some name) book (Some counts) = (counts.file ≡ unwritten name 0o644 10)
     × (counts.meter.tally ≡ no_tally) × (counts.reports ≡ 0) × (counts.state.book ≡ book)
 
--- the file of all balances is the one that was named, and a write of it began
-abbrev pub HasKept : {R : Type 0} → Option BalancesFile → Option (KeptBalances R) → Type 0
-HasKept None None = ⊤
-HasKept None (Some kept) = ⊥
-HasKept (Some named) None = ⊥
-HasKept (Some named) (Some kept) =
-    (moment : ℕ) × IsBegun (Some moment) (unwritten named.file 0o640 named.seconds) kept.file
+-- the file of all balances is the one that was named, and a write of it began at this moment
+abbrev pub HasKept : Option BalancesFile → ℕ → Option FreshFile → Type 0
+HasKept None moment None = ⊤
+HasKept None moment (Some kept) = ⊥
+HasKept (Some named) moment None = ⊥
+HasKept (Some named) moment (Some kept) =
+    IsBegun (Some moment) (unwritten named.file 0o640 named.seconds) kept
 
--- Between its slices a server polls this source, looks at the names of this book, and keeps the file
--- of balances that was named.
-pub record BeginsWith {R S E : Type 0} (named : Option BalancesFile) (book : List ℕ) (source : S)
-    (begun : FileRounds R S E) : Type 0 where
-  pub polled : begun.source ≡ source
-  pub looked_at : IsSomeAnd begun.names (λ names. names.book.path ≡ book)
-  pub kept : HasKept named begun.balances
+-- Before the first round the clock was read once. At that moment the file of balances that was named
+-- was written. The text was not polled, and the book has this name.
+pub record Begins (named : Option BalancesFile) (sights : Option (List Sight))
+    (moments : Option (List ℕ)) (name : Option NameSeen) (begun : RoundState) : Type 0 where
+  pub moment : ℕ
+  pub reads : Grows moments (moment ∷ []) begun.moments
+  pub keeps : HasKept named moment begun.balances
+  pub unpolled : begun.sights ≡ sights
+  pub name_is : begun.name ≡ name

@@ -1,5 +1,5 @@
 -- What `serve` does, and how it ends.
-use Rattle.std.specs.Prelude.{◌≡◌, ◌⊎◌, ℕ, List, [], ◌∷◌, Option, Result, Ok, Err}
+use Rattle.std.specs.Prelude.{◌≡◌, ◌⊎◌, ℕ, List, [], ◌∷◌, Option, None, Some, Result, Ok, Err}
 use Rattle.std.specs.Io.KnownBytes.{Appends}
 use Rattle.std.specs.List.{AllZip}
 use Rattle.std.specs.Net.Grammar.{IsDotted}
@@ -12,13 +12,16 @@ use Rattle.acct_service.specs.declared.slices.Until.TheVariants as until
 use Rattle.acct_net.specs.Bound.{AreBoundAt}
 use Rattle.acct_net.specs.declared.datagrams.RadiusSocket.{RadiusSocket}
 use Rattle.acct_program_args.specs.declared.job.Listening.{Listening}
-use Rattle.acct_program_commands.specs.NewSite.{LooksAndTakes}
+use Rattle.acct_program_args.specs.declared.job.Serving.{Serving}
+use Rattle.acct_program_args.specs.Orders.{seconds_of}
+use Rattle.acct_program_commands.specs.Rounds.{GoesRound, RoundState}
 use Rattle.acct_program_commands.specs.Sights.{Sight}
 use Rattle.acct_program_commands.specs.declared.fault.Fault.{Fault}
 use Rattle.acct_program_commands.specs.declared.fault.Fault.TheVariants as fault
 use Rattle.acct_program_commands.specs.declared.fault.StoreFault.TheVariants as store
 use Rattle.acct_program.specs.declared.status.Status.{Status}
 use Rattle.acct_program.specs.declared.status.Status.TheVariants as status
+use Rattle.acct_program_serving.specs.Files.{Begins}
 use Rattle.acct_program_serving.specs.Runs.{Ran, whole_text}
 use Rattle.acct_program_serving.specs.declared.ended.Ended.{Ended}
 use Rattle.acct_program_serving.specs.declared.ended.Ended.TheVariants as how
@@ -49,13 +52,13 @@ pub record IsBoundTo (listening : Listening) (datagrams : List RadiusSocket) (de
   pub desk_is : IsDotted listening.desk_address desk
   pub desk_port_is : desk_port ≡ listening.desk_port
 
--- After each slice the text of the configuration was polled once, and nothing else was. The turns
--- that follow have what was taken from that poll: other clients and keys, or what was in force.
-abbrev pub PollsAfter : Option (List Sight) → List Slice → Option (List Sight) → Type 0
-PollsAfter seen [] last = seen ≡ last
-PollsAfter seen (slice ∷ later) last =
-    (next : Option (List Sight)) × LooksAndTakes slice.site.plans seen slice.given next
-    × PollsAfter next later last
+-- After each slice a round went, and nothing else did. The turns that follow have what was taken
+-- from its poll: other clients and keys, or what was in force.
+abbrev pub RoundsAfter : RoundState → List Slice → RoundState → Type 0
+RoundsAfter known [] last = known ≡ last
+RoundsAfter known (slice ∷ later) last =
+    (next : RoundState) × GoesRound slice.site.plans known slice.given next
+    × RoundsAfter next later last
 
 -- A run of a server over a book and an exchange.
 module _ {B X : Type 0} (b : book.Ghosts B) (x : exchange.Ghosts X) where
@@ -79,26 +82,30 @@ module _ {B X : Type 0} (b : book.Ghosts B) (x : exchange.Ghosts X) where
       (new ≡ old) × IsUnasked first last
 
   -- A server ended this way over an exchange that was bound so, and had made no turn and no fault.
-  -- Before it began, the book was only read, for the file of balances. Its rounds polled a text
-  -- that had shown this: each configuration is the first one, or was taken from a poll.
-  pub record EndsAfresh (IsBound : X → Type 0) (seen : Option (List Sight)) (oldest : Option ℕ)
-      (config : Config) (turns : ℕ) (old new : B) (last : X) (before after : Option (List ℕ))
-      (ended : Ended) : Type 0 where
+  -- Before it began, the book was only read, for the file of balances. Its rounds went on from what
+  -- the text and its clock had shown, with the file of balances that was named and the name of this
+  -- book: each configuration is the first one, or was taken from a poll.
+  pub record EndsAfresh (IsBound : X → Type 0) (sights : Option (List Sight))
+      (moments : Option (List ℕ)) (book : List ℕ) (serving : Serving) (config : Config)
+      (old new : B) (last : X) (before after : Option (List ℕ)) (ended : Ended) : Type 0 where
     pub begun : B
     pub looked : OnlyLooks b old begun
     pub first : X
     pub bound : IsBound first
     pub fresh : x.turn_count first ≡ 0
     pub faultless : x.failure_count first ≡ 0
-    pub polled : Option (List Sight)
-    pub ends : EndsOver oldest config turns (λ slices. PollsAfter seen slices polled) begun new
-        first last before after ended
+    pub known : RoundState
+    pub begins : Begins serving.telling.balances sights moments
+        (Some (record { path = book; looked_at = None })) known
+    pub then : RoundState
+    pub ends : EndsOver (seconds_of serving.oldest_report) config serving.turns
+        (λ slices. RoundsAfter known slices then) begun new first last before after ended
 
   -- The command. The sockets could not be bound, and nothing was done. Or a server ended this way
   -- over an exchange that was bound so, and had made no turn and no fault.
-  abbrev pub RunsServer : (X → Type 0) → Option (List Sight) → Option ℕ → Config → ℕ
-      → Option (List ℕ) → Option (List ℕ) → Result Status Fault → B → B → Type 0
-  RunsServer IsBound seen oldest config turns before after result old new =
+  abbrev pub RunsServer : (X → Type 0) → Option (List Sight) → Option (List ℕ) → List ℕ → Serving
+      → Config → Option (List ℕ) → Option (List ℕ) → Result Status Fault → B → B → Type 0
+  RunsServer IsBound sights moments book serving config before after result old new =
       ((told : Fault) × (result ≡ Err told) × IsUnbound told × (new ≡ old) × (after ≡ before))
-      ⊎ ((ended : Ended) × (result ≡ ended_of ended) × ((last : X)
-      × EndsAfresh IsBound seen oldest config turns old new last before after ended))
+      ⊎ ((ended : Ended) × (result ≡ ended_of ended) × ((last : X) × EndsAfresh IsBound sights
+      moments book serving config old new last before after ended))

@@ -1,13 +1,13 @@
 //! A server over sockets: binds them, and then runs a watched server over them.
 ghost use Rattle.std.specs.Prelude.{◌≡◌, ◌≤◌, ◌<◌, ◌^◌, IfOk, IfErr, IfSome};
-ghost use Rattle.std.specs.Prelude.{ℕ, None, Option, IsSomeAnd, MatchOption};
+ghost use Rattle.std.specs.Prelude.{◌∷◌, [], ℕ, None, Some, Option, IsSome, IsSomeAnd, MatchOption};
 ghost use Rattle.std.specs.List.{AllZip};
 ghost use Rattle.std.specs.Net.Grammar.{IsDotted};
 ghost use Rattle.acct_book.specs.Step.{OnlyLooks};
-ghost use Rattle.acct_program_args.specs.Orders.{seconds_of};
-ghost use Rattle.acct_program_commands.specs.Rounds.{KeepsAt};
+ghost use Rattle.acct_service.specs.Told.{Grows};
+ghost use Rattle.acct_program_commands.specs.Rounds.{KeepsAt, file_of, name_of};
 ghost use Rattle.acct_program_args.specs.declared.job.BalancesFile.{BalancesFile};
-ghost use Rattle.acct_program_serving.specs.Files.{BeginsWith, IsCounted, IsKept};
+ghost use Rattle.acct_program_serving.specs.Files.{Begins, IsCounted, IsKept};
 ghost use Rattle.acct_program_serving.specs.Serving.{IsBoundTo, RunsServer, IsUnbound};
 ghost use Rattle.acct_program_serving.specs.Serving.{ended_of};
 
@@ -89,10 +89,9 @@ pub fn run_serve<
     ensures done { IfOk result (λ status. status ≡ Status.Done) }
     ensures serves { RunsServer B.Book ⟦<Sockets<'r, R> as Exchange>⟧
         (λ s. IsBoundTo serving.now.listening s.event_loop.datagrams.sockets.items
-        s.event_loop.desk.door.address s.event_loop.desk.door.port)
-        (S.sights around.source) (seconds_of serving.now.oldest_report) config.now
-        serving.now.turns (W.contents output.old) (W.contents output.new) result book.old
-        book.new }
+        s.event_loop.desk.door.address s.event_loop.desk.door.port × IsSome s.silenced)
+        (S.sights around.source) (S.moments around.source) database.now serving.now config.now
+        (W.contents output.old) (W.contents output.new) result book.old book.new }
 {
     let Surroundings {
         source,
@@ -106,9 +105,7 @@ pub fn run_serve<
     let names = BookNames::new(runtime, alloc, database)?;
     let sockets = bound(runtime, alloc, &serving.listening)?.silenced_by(gauges.away());
     let noted = Shared::new(&notices);
-    let begun = first_rounds(
-        runtime, alloc, source, balances, names, config, book, &gauges, noted,
-    );
+    let begun = first_rounds(alloc, source, balances, names, config, book, &gauges, noted);
     let watcher = Watcher {
         clock: runtime,
         drops: watch_on(drops),
@@ -163,10 +160,9 @@ fn files_to_write<'s, R: Clock + ReplacesFiles, E: Write + Drop>(
 
 // What a server does between its slices: it polls this source, looks at the names of its book, and
 // keeps its file of balances, which is written here for the first time.
-fn first_rounds<'r, R: ReplacesFiles + Clock, S: SiteSource + Drop, B: Book, E: Write + Drop>(
-    runtime: &'r R,
+fn first_rounds<'r, R: ReplacesFiles, S: SiteSource + Drop, B: Book, E: Write + Drop>(
     alloc: Global,
-    source: S,
+    mut source: S,
     mut balances: Option<KeptBalances<'r, R>>,
     names: BookNames<'r, R>,
     config: &Config,
@@ -175,26 +171,31 @@ fn first_rounds<'r, R: ReplacesFiles + Clock, S: SiteSource + Drop, B: Book, E: 
     mut errors: E,
 ) -> FileRounds<'r, R, S, E>
     ensures looks { OnlyLooks B.Book book.old book.new }
-    ensures source { result.source ≡ source }
     ensures begins { (named : Option BalancesFile) → IsKept named balances.entry
-        → BeginsWith named names.entry.book.path source result }
+        → Begins named (S.sights source) (S.moments source)
+        (name_of (Some names.entry)) (record {
+          sights = S.sights result.source;
+          moments = S.moments result.source;
+          balances = file_of result.balances;
+          name = name_of result.names;
+        }) }
 {
     write_first(
-        runtime,
         alloc,
+        &mut source,
         &mut balances,
         config,
         book,
         gauges,
         &mut errors,
     );
-    FileRounds::new(runtime, source, balances, Some(names), gauges, errors)
+    FileRounds::new(source, balances, Some(names), gauges, errors)
 }
 
 // Writes the file of balances for the first time, if there is one.
-fn write_first<'r, R: ReplacesFiles + Clock, B: Book, E: Write>(
-    runtime: &'r R,
+fn write_first<'r, R: ReplacesFiles, S: SiteSource, B: Book, E: Write>(
     alloc: Global,
+    source: &mut S,
     balances: &mut Option<KeptBalances<'r, R>>,
     config: &Config,
     book: &mut B,
@@ -202,9 +203,12 @@ fn write_first<'r, R: ReplacesFiles + Clock, B: Book, E: Write>(
     errors: &mut E,
 )
     ensures looks { OnlyLooks B.Book book.old book.new }
-    ensures keeps { (moment : ℕ) × KeepsAt moment balances.old balances.new }
+    ensures unpolled { S.sights source.new ≡ S.sights source.old }
+    ensures keeps { (moment : ℕ)
+        × Grows (S.moments source.old) (moment ∷ []) (S.moments source.new)
+        × KeepsAt moment (file_of balances.old) (file_of balances.new) }
 {
-    let moment = moment_of(runtime);
+    let moment = source.moment();
     keep_at(alloc, balances, config, book, moment, gauges, errors);
 }
 

@@ -1,6 +1,6 @@
 //! What `--explain` adds to a fault. It only looks at files.
 use acct_model::Text;
-use acct_program_args::{Job, Order, Paths};
+use acct_program_args::{BookJob, Job, Order};
 use acct_program_commands::{Fault, StoreFault, read_config};
 use acct_program_explain::{
     Explained, Wanted, explain, explain_plans, explain_sockets, explain_tables, warn_of_sample,
@@ -22,7 +22,7 @@ pub(crate) fn warn_first<R: ReadsFiles + AllocGlobal, E: Write>(
     order: &Order,
     errors: &mut E,
 ) {
-    if let Job::Serve { paths, .. } = &order.job {
+    if let Job::Book(paths, BookJob::Serve(_)) = &order.job {
         warn_of_sample(runtime, runtime.alloc(), &paths.config, errors);
     }
 }
@@ -68,7 +68,7 @@ fn explain_fault<R: ReadsFiles + Net + AllocGlobal, E: Write>(
     errors: &mut E,
 ) {
     match (fault, job) {
-        (Fault::CannotBind, Job::Serve { serving, .. }) => {
+        (Fault::CannotBind, Job::Book(_, BookJob::Serve(serving))) => {
             let wanted = Wanted {
                 addresses: serving.listening.addresses.as_slice(),
                 desk: &serving.listening.desk_address,
@@ -142,7 +142,7 @@ fn explained<'a>(job: &'a Job, fault: Fault) -> Option<Explained<'a>> {
 fn unopened<'a>(order: &'a Order) -> Option<Explained<'a>> {
     let file = book_file(&order.job)?;
     match order.job {
-        Job::Init { .. } => Some(Explained::Unmade { file }),
+        Job::Book(_, BookJob::Init { .. }) => Some(Explained::Unmade { file }),
         _ => Some(Explained::Unopened {
             file,
             loses_commits: order.loses_commits,
@@ -153,11 +153,9 @@ fn unopened<'a>(order: &'a Order) -> Option<Explained<'a>> {
 // The file of a job's book, if it has one.
 fn book_file(job: &Job) -> Option<&Text> {
     match job {
+        Job::Feed { .. } => None,
         Job::Check { database, .. } => database.as_ref(),
-        _ => {
-            let paths = paths_of(job)?;
-            Some(&paths.database)
-        }
+        Job::Book(paths, _) => Some(&paths.database),
     }
 }
 
@@ -166,23 +164,6 @@ fn config_file(job: &Job) -> Option<&Text> {
     match job {
         Job::Feed { config } => config.as_ref(),
         Job::Check { config, .. } => Some(config),
-        _ => {
-            let paths = paths_of(job)?;
-            Some(&paths.config)
-        }
-    }
-}
-
-// The files of a job that keeps a book.
-fn paths_of(job: &Job) -> Option<&Paths> {
-    match job {
-        Job::Feed { .. } | Job::Check { .. } => None,
-        Job::Init { paths, .. }
-        | Job::Serve { paths, .. }
-        | Job::Import { paths }
-        | Job::Export { paths, .. }
-        | Job::Forward { paths, .. }
-        | Job::Migrate { paths }
-        | Job::AddPlans { paths } => Some(paths),
+        Job::Book(paths, _) => Some(&paths.config),
     }
 }

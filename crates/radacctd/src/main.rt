@@ -13,7 +13,7 @@ mod explaining;
 
 use crate::explaining::{explain_run, warn_first};
 use acct_program::Status;
-use acct_program_args::{Job, Order, Syncs, job_of, tell};
+use acct_program_args::{BookJob, Job, Order, Syncs, job_of, tell};
 use acct_program_explain::explain_words;
 use acct_program_jobs::{BookFile, Streams, carry_out, serve_files, told};
 use acct_program_serving::Errors;
@@ -44,7 +44,7 @@ fn main(rt: HostRuntime) -> ExitCode {
     // none is opened twice. A server that syncs once assumes that each octet of a write that was
     // cut short is the old one or the new one. All other jobs assume nothing of it.
     let status = match &order.job {
-        Job::Serve { paths, serving } if serving.syncs == Syncs::Once => {
+        Job::Book(paths, BookJob::Serve(serving)) if serving.syncs == Syncs::Once => {
             let files = BookFile::of(paths, order.loses_commits);
             let served = serve_files(&rt, files, serving, output, errors, Unknown);
             let (status, outcome) = told(&mut rt.stderr(), served);

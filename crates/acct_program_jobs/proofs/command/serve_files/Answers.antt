@@ -2,11 +2,13 @@ use Rattle.std.proofs.Common.{inl, inr}
 use Rattle.acct_program_jobs.proofs.command.serve_files.Goals as goal
 
 pub returns-in-Ok-clause-does : goal.returns-in-Ok-clause-does
-returns-in-Ok-clause-does g c paths text =
-    inr (rw (← c.server_of-server.ensures.serving) c.work_on.ensures.does)
+returns-in-Ok-clause-does g c text = inr (rw (
+  ← c.server_of-server.ensures.serving,
+  ← c.server_of-server.ensures.file,
+) c.work_on.ensures.does)
 
 pub returns-in-Err-clause-does : goal.returns-in-Err-clause-does
-returns-in-Err-clause-does g c paths text = inl (record {
+returns-in-Err-clause-does g c text = inl (record {
   named = c.files_of_server.ensures.some c.in-Err.ensures.some;
   told = c.in-Err.fault;
   ended_is = c.without_book.ensures.same;
