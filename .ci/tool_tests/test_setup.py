@@ -396,6 +396,24 @@ class Existing(Folder):
         found = dict(freeradius.blocks("client", text))
         self.assertEqual(freeradius.value(found["b"], "secret"), "of-the-halls-of-residence")
 
+    def test_clients_of_a_folder_that_is_included_keep_their_secrets(self):
+        """Else a device of the network would sign with another secret than its new client has."""
+        os.makedirs(os.path.join(self.folder, "clients.d", "more"))
+        lines = "$-include 'clients.d/' # ours\n$INCLUDE sites-enabled/\n$INCLUDE policy.d/\n"
+        self.put("radiusd.conf", f"{lines}modules {{\n}}\n")
+        self.put("clients.d/halls", CLIENTS + "$INCLUDE more/labs\n$INCLUDE halls\n")
+        self.put("clients.d/more/labs", "client labs {\n\tipaddr = 10.3.0.0/16\n\tsecret = l\n}\n")
+        for name in ("halls~", ".halls"):
+            self.put(f"clients.d/{name}", "client old {\n\tipaddr = 10.1.2.3\n\tsecret = old\n}\n")
+        self.assertEqual(freeradius.included(), ["clients.d/halls", "clients.d/more/labs"])
+        wanted = self.wanted(*({"name": f"b{it}", "address": it} for it in
+                               ("10.1.2.3", "10.3.0.1", "10.0.0.1")))
+        found = dict(freeradius.blocks("client", front.clients(None, wanted)))
+        self.assertEqual([freeradius.value(found.get(f"b{it}", ""), "secret") for it in
+                          ("10.1.2.3", "10.3.0.1", "10.0.0.1")],
+                         ["of-the-halls-of-residence", "l", ""])
+        self.assertEqual(front.secret_of("x", "10.0.0.1"), "of wlc1")
+
     def test_a_client_of_the_same_name_elsewhere_is_told(self):
         wanted = self.wanted({"name": "halls", "address": "10.2.0.0/16"})
         self.assertRaisesRegex(steps.Failed, "halls", front.clients, None, wanted)
@@ -593,9 +611,13 @@ class Existing(Folder):
             found = away.includes_out(front.main(text, self.wanted(**more)))
             self.assertEqual(found.replace(f"$INCLUDE {away.CLIENTS}\n", ""), text)
         # FreeRADIUS would read on without a word, and without any access server.
-        self.assertEqual(away.includes_out("-$INCLUDE radacctd/access-servers.conf\n"
-                                           "-$INCLUDE radacctd/settings.conf\n"),
-                         f"-$INCLUDE {away.CLIENTS}\n")
+        for begin, end in (("$-INCLUDE ", ""), ("\t$include\t", " # ours"), ('$INCLUDE "', '"')):
+            own = "".join(f"{begin}${{confdir}}/radacctd/{it}{end}\n"
+                          for it in (away.CLIENTS, *away.SETTINGS))
+            found = away.includes_out(f"a = b\n{own}modules {{\n}}\n")
+            line = begin.rstrip('"') + away.CLIENTS
+            self.assertEqual(found, f"a = b\n{line}\nmodules {{\n}}\n")
+            self.assertEqual(freeradius.own_included(own), {away.CLIENTS, *away.SETTINGS})
         text = "# mine\nal Cleartext-Password := x\n"
         self.assertEqual(away.test_user_out(front.users(text)), text)
         wanted = self.wanted({"name": "ap", "address": "10.0.0.2"})

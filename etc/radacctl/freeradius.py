@@ -38,6 +38,11 @@ REST = r"[ \t]*(?:#[^\n]*)?"
 # What tells where a block ends. A text may have a brace: a secret, say.
 BRACES = re.compile(f"{COMMENT}|{QUOTED}|[{{}}]")
 SERVER = re.compile(r"(?m)^\s*server\s+([\w.-]+)\s*\{")
+# A line that includes a file, or all files of a folder; $-INCLUDE also one that is not there.
+INCLUDE = re.compile(rf"""(?im)^([ \t]*\$-?INCLUDE[ \t]+)["']?([^\s"']+)["']?{REST}$""")
+# Which files of a folder FreeRADIUS reads; and the folders that have no clients.
+READ = re.compile(r"[A-Za-z0-9_-][A-Za-z0-9._-]*")
+NO_CLIENTS = ("mods-enabled", "policy.d", "sites-enabled", "radacctd")
 
 
 def path(*names):
@@ -149,8 +154,7 @@ def enabled():
     """The site's own files of sites-enabled, as FreeRADIUS reads them."""
     folder = path("sites-enabled")
     found = sorted(os.listdir(folder)) if os.path.isdir(folder) else []
-    return [it for it in found if re.fullmatch(r"[A-Za-z0-9_-][A-Za-z0-9._-]*", it)
-            and not it.startswith("radacctd")]
+    return [it for it in found if READ.fullmatch(it) and not it.startswith("radacctd")]
 
 
 def file_of(server):
@@ -202,21 +206,37 @@ def heard_at(kind, names, port):
     return min(found, key=lambda it: it[0] != "127.0.0.1", default=("127.0.0.1", str(port)))
 
 
-def included(name="radiusd.conf"):
-    """The files that radiusd.conf includes one by one, and those that they include: clients.conf."""
-    found = []
-    for line in re.findall(r"(?m)^\s*-?\$INCLUDE\s+(\S+)", text(name)):
-        inner = line.replace("${confdir}/", "").replace("${raddbdir}/", "")
-        inner = inner.removeprefix(f"{site.RADDB}/")
-        is_own = not inner.startswith(("/", "radacctd/")) and not inner.endswith("/")
-        if is_own and not re.search(r"\$|(?:^|/)\.\./", inner) and os.path.isfile(path(inner)):
-            found += [inner, *included(inner)]
-    return list(dict.fromkeys(found))
+def included():
+    """The files that radiusd.conf includes, and those that they include: clients.conf, say."""
+    found = ["radiusd.conf"]
+    for name in found:
+        places = [it for _, place in INCLUDE.findall(text(name)) for it in files_at(place, name)]
+        found += [it for it in dict.fromkeys(places) if it not in found]
+    return found[1:]
+
+
+def files_at(place, name):
+    """The files of the site's own that an include of another file names, from FreeRADIUS' folder."""
+    place = re.sub(r"^\$\{(?:confdir|raddbdir)\}/", f"{site.RADDB}/", place)
+    inner = os.path.relpath(path(os.path.dirname(name), place), site.RADDB)
+    if "$" in inner or inner.split("/")[0] in ("..", *NO_CLIENTS):
+        return []
+    found = [inner]
+    if place.endswith("/") and os.path.isdir(path(inner)):
+        found = [os.path.join(inner, it) for it in sorted(os.listdir(path(inner)))
+                 if READ.fullmatch(it)]
+    return [it for it in found if os.path.isfile(path(it))]
+
+
+def own_name(place):
+    """The name of radacctd's file that an include names, however it spells the folder; else ""."""
+    folder, name = os.path.split(place)
+    return name if os.path.basename(folder) == "radacctd" else ""
 
 
 def own_included(main):
-    """The names of radacctd's files that radiusd.conf includes, however it spells the folder."""
-    return set(re.findall(r"(?m)^[ \t]*-?\$INCLUDE[ \t]+(?:\S*/)?radacctd/(\S+)[ \t]*$", main))
+    """The names of radacctd's files that radiusd.conf includes."""
+    return {own_name(place) for _, place in INCLUDE.findall(main)}
 
 
 def network(name, block):

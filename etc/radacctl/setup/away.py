@@ -22,6 +22,7 @@ TIMER = f"/etc/systemd/system/timers.target.wants/{packages.UNIT}"
 LAST = (TIMER, packages.DROP_IN)
 # The site's access servers, in FreeRADIUS' folder itself.
 CLIENTS = "access-servers.conf"
+SETTINGS = ("settings.conf", "pair.conf", "packages.conf")
 
 
 class Gone(File):
@@ -64,12 +65,17 @@ def lines_out(text):
 
 def includes_out(text):
     """radiusd.conf without radacctd's settings. The access servers stay FreeRADIUS' clients."""
-    include = r"(?m)^([ \t]*-?\$INCLUDE[ \t]+)"
-    own = include + r"\S*radacctd/"
-    text = re.sub(own + r"(?:settings|pair|packages)\.conf[ \t]*\n", "", text)
-    is_there = re.search(include + rf"(?!\S*radacctd/)\S*{CLIENTS}[ \t]*$", text)
-    line = "" if is_there else rf"\g<1>{CLIENTS}\n"
-    return re.sub(own + r"access-servers\.conf[ \t]*\n", line, text)
+    places = [it[1] for it in freeradius.INCLUDE.findall(text)]
+    has_clients = any(os.path.basename(it) == CLIENTS and not freeradius.own_name(it)
+                      for it in places)
+
+    def line(found):
+        own = freeradius.own_name(found[2])
+        if own == CLIENTS and not has_clients:
+            return f"{found[1]}{CLIENTS}\n"
+        return "" if own in (CLIENTS, *SETTINGS) else found[0]
+
+    return re.sub(freeradius.INCLUDE.pattern + r"\n?", line, text)
 
 
 def own_clients_out(text):
