@@ -121,6 +121,20 @@ class Site(Folder):
                          "RADACCTD_BIND=--bind=0.0.0.0\n")
         self.assertNotIn("BIND", alone.defaults(None, self.wanted(server="10.0.0.5")))
 
+    def test_radacctd_listens_where_freeradius_sends_to(self):
+        """A site may have changed the port: by another one no report would reach the book."""
+        with mock.patch.object(freeradius, "text", lambda *_: ""):
+            self.assertEqual(alone.defaults(None, self.wanted()), "RADACCTD_RADIUS_PORT=11813\n")
+        with mock.patch.object(freeradius, "text", lambda *_: "radacctd {\n\tport = 21813\n}\n"):
+            for text in ("RADACCTD_RADIUS_PORT=21813\n", '# 1\nRADACCTD_RADIUS_PORT="21813"\n'):
+                self.assertEqual(alone.defaults(text, self.wanted()), text)
+        # And where access servers do, once FreeRADIUS is out.
+        one = self.wanted(freeradius=False, server="10.0.0.5")
+        self.assertEqual(alone.defaults('RADACCTD_BIND="--bind 10.1.0.5 \\\n --bind 10.1.0.6"\n'
+                                        'RADACCTD_RADIUS_PORT="11813"\n', one),
+                         'RADACCTD_BIND="--bind 10.1.0.5 --bind 10.1.0.6 --bind 10.0.0.5"\n'
+                         "RADACCTD_RADIUS_PORT=1813\n")
+
     def test_another_usual_class_is_written(self):
         plans = [PLAN, {**PLAN, "class": "gold"}]
         text = front.settings(None, self.wanted(plan=plans), "x" * 16)

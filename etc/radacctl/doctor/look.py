@@ -139,8 +139,12 @@ def certificate(path, cure, *user):
 
 def values_in(path):
     """The values of a file of settings for systemd, without quotation marks."""
+    return values_of(files.text(path))
+
+
+def values_of(text):
     found = {}
-    for line in files.text(path).splitlines():
+    for line in text.replace("\\\n", "").splitlines():
         name, mark, value = line.strip().partition("=")
         if mark and not name.startswith("#"):
             found[name.strip()] = value.strip().strip("\"'")

@@ -128,8 +128,9 @@ def block(name, members):
 def with_value(text, name, value):
     """A file of settings for systemd, which reads the last line of a name, with this value."""
     line = f"{name}={value}"
-    text = text or ""
-    *_, found = [None, *re.finditer(rf"(?m)^[ \t]*{name}=.*$", text)]
+    if look.values_of(text).get(name) == value.strip('"'):
+        return text
+    *_, found = [None, *re.finditer(rf"(?m)^[ \t]*{name}=(?:\\\n|.)*$", text)]
     if found:
         return text[: found.start()] + line + text[found.end() :]
     return (text.rstrip("\n") + "\n" if text else "") + line + "\n"
@@ -139,8 +140,8 @@ def with_bind(text, address):
     """The settings of a server to which access servers report: it also listens where they send to.
     What a site has chosen stays.
     """
-    *_, found = [None, *re.findall(r"(?m)^[ \t]*RADACCTD_BIND=(.*)$", text)]
-    known = re.findall(r"--bind[ =]([\d.]+)", found) if found is not None else ["127.0.0.1"]
+    found = look.values_of(text).get("RADACCTD_BIND", "--bind 127.0.0.1")
+    known = re.findall(r"--bind[ =]([\d.]+)", found)
     if not known or {address, "0.0.0.0"} & set(known):
         return text
     binds = " ".join(f"--bind {it}" for it in [*known, address])
@@ -148,12 +149,16 @@ def with_bind(text, address):
 
 
 def defaults(text, answers):
+    text, port = text or "", "RADACCTD_RADIUS_PORT"
     if answers.has_front:
-        text = with_value(text, "RADACCTD_RADIUS_PORT", FRONT_PORT)
+        # That to which FreeRADIUS sends: a site may have changed it.
+        sent = freeradius.settings()["port"]
+        text = with_value(text, port, sent if sent.isdecimal() else FRONT_PORT)
     else:
-        text = with_bind(text or "", answers.server)
-        # FreeRADIUS, which had the usual port, was taken out.
-        text = re.sub(rf"(?m)^(RADACCTD_RADIUS_PORT=){FRONT_PORT}$", r"\g<1>1813", text)
+        text = with_bind(text, answers.server)
+        if look.values_of(text).get(port) == FRONT_PORT:
+            # FreeRADIUS, which had the usual port, was taken out.
+            text = with_value(text, port, "1813")
     # The other machine of a pair sells at this desk, too.
     return with_value(text, "RADACCTD_DESK_BIND", answers.pair["own"]) if answers.pair else text
 
