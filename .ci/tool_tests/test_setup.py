@@ -751,6 +751,12 @@ class Certificates(Folder):
                          b"a bought certificate\n")
 
 
+    def test_the_name_of_a_host_may_be_longer_than_that_of_a_subject(self):
+        for host in ("wifi." + "a" * 60 + ".example.org", "a.example.org"):
+            web.make_certificate(host)
+            self.assertTrue(web.has_certificate(host), host)
+
+
 class Cashiers(Folder):
     def test_one_who_is_not_in_the_answers_is_told(self):
         """Setup ends no login by itself: of a site that was set up by hand it knows no cashier."""

@@ -97,8 +97,9 @@ def has_certificate(host):
 
 
 def make_certificate(host):
+    # A subject has at most 64 characters, and browsers read the other name.
     words = ("openssl", "req", "-x509", "-newkey", "rsa:2048", "-nodes", "-days", "3650",
-             "-subj", f"/CN={host}", "-addext", f"subjectAltName=DNS:{host}")
+             "-subj", f"/CN={host[:64]}", "-addext", f"subjectAltName=DNS:{host}")
     with tempfile.TemporaryDirectory(dir="/run") as folder:
         made = [os.path.join(folder, it) for it in ("key", "pem")]
         steps.given([*words, "-keyout", made[0], "-out", made[1]])
