@@ -5,6 +5,7 @@ import hashlib
 import io
 import os
 import re
+import shlex
 import stat
 import tempfile
 import time
@@ -12,8 +13,8 @@ import tomllib
 import unittest
 import unittest.mock
 
-from radacctl import files, freeradius, site as places
-from radacctl.commands import doctor
+from radacctl import files, freeradius, program, site as places
+from radacctl.commands import doctor, setup
 from radacctl.doctor import book, copies, faults, front as fronts, kind, look, machine
 from radacctl.doctor import packages as of_packages, pair as pairs, web as pages
 from radacctl.setup import alone, answers, front, pair, sql, steps
@@ -95,8 +96,6 @@ class Answers(unittest.TestCase):
         return str(found.exception)
 
     def test_the_sample_is_right(self):
-        from radacctl.commands import setup
-
         with tempfile.NamedTemporaryFile("w", suffix=".toml") as file:
             file.write(setup.SAMPLE)
             file.flush()
@@ -137,8 +136,6 @@ class Answers(unittest.TestCase):
 
     def test_the_line_of_a_wrong_answer_is_named(self):
         """And what is expected. Each is put into a right file."""
-        from radacctl.commands import setup
-
         rows = (("decimals = 2", "decimals = 9", "`decimals` is a whole number from 0 to 6"),
                 ("block = 10000000", "block = 0", "`block` is a whole number from 1 to"),
                 ("unit = 1", "unit = 1.5", "`unit` is a whole number from 0 to"),
@@ -390,6 +387,24 @@ class Cures(unittest.TestCase):
             self.assertEqual(fault.name, "unit-down")
             self.assertTrue(fault.cure.startswith(act), fault.cure)
             self.assertNotIn("systemctl start", fault.cure)
+
+    def test_no_name_that_another_user_chose_is_a_command(self):
+        """Root types a cure. FreeRADIUS' user may name files, and a user with a session groups."""
+        name = "x; touch y #"
+        with tempfile.TemporaryDirectory() as folder:
+            path = os.path.join(os.path.realpath(folder), name)
+            files.make(path, b"", 0o644)
+            [fault] = look.open_to_others(path)
+        self.assertEqual(shlex.split(fault.cure), ["chmod", "o=", path])
+        one = unittest.mock.Mock(has_shards=False)
+        with unittest.mock.patch.object(freeradius, "settings", lambda: {"queue": f"/{name}"}), \
+                unittest.mock.patch.object(fronts, "states", lambda: []), said((0, "root")):
+            found = [it.cure for it in fronts.queue(one)]
+        self.assertEqual([it.count(f" '/{name}'") for it in found], [0, 2])
+        self.assertEqual(found[1].count(name), 2)
+        group = f"0::/user.slice/user@7.service/{name}.service\n"
+        with unittest.mock.patch("builtins.open", unittest.mock.mock_open(read_data=group)):
+            self.assertEqual(machine.unit_of("9"), "user@7.service")
 
     def test_of_a_unit_that_failed(self):
         units = "radacctd-nightly.service", "radacctd@s3.service", "radacctd-clerk-work@7-1.service"
@@ -726,7 +741,15 @@ class Unseen(unittest.TestCase):
 
     def test_what_others_named_is_one_plain_line(self):
         for text in ("a\nb", "\x1b[2Jx", "a\udcffb", "a\u202eb", "a\tb"):
-            self.assertTrue(doctor.shown(text).isprintable(), ascii(text))
+            self.assertTrue(program.plain(text).isprintable(), ascii(text))
+            # And of several lines, as of FreeRADIUS' files that a set-up changes.
+            with contextlib.redirect_stderr(io.StringIO()) as said_to:
+                program.say(text)
+            with contextlib.redirect_stdout(io.StringIO()) as shown:
+                setup.is_wanted(unittest.mock.Mock(dry_run=True), [text])
+            for it in (said_to, shown):
+                lines = it.getvalue().replace("\t", "").splitlines()
+                self.assertEqual([it for it in lines if not it.isprintable()], [], ascii(text))
 
 
 if __name__ == "__main__":

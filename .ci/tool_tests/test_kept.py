@@ -82,17 +82,20 @@ class Devices(unittest.TestCase):
 
     def test_the_copy_of_the_cure_has_the_logins(self):
         """Nights since they were damaged or removed have copies, too."""
-        contents = [b"SQLite format 3\0..", b"", None, b"SQLite format 3\0.."]
-        endings = ["", "", "", ".damaged"]
+        contents = [b"SQLite format 3\0..", b"", None, b"SQLite format 3\0..", b""]
+        endings = ["", "", "", ".damaged", ""]
         with tempfile.TemporaryDirectory(dir=MEMORY) as folder:
             for day, (octets, ending) in enumerate(zip(contents, endings), 1):
                 copy = f"{folder}/2026-01-0{day}"
                 os.makedirs(f"{copy}/book")
                 made = archive.Archive(f"{copy}/site.tar.gz")
                 if octets is not None:
-                    made.add(tarfile.TarInfo(logins.FILE[1:] + ending), octets)
+                    it = tarfile.TarInfo(logins.FILE[1:] + ending)
+                    # FreeRADIUS' user may make a folder of that name.
+                    it.type = tarfile.DIRTYPE if day == 5 else tarfile.REGTYPE
+                    made.add(it, octets)
                 made.end({})
-            os.makedirs(f"{folder}/2026-01-05/book")
+            os.makedirs(f"{folder}/2026-01-06/book")
             with mock.patch.object(doctor.copies, "place",
                                    lambda book: (folder, os.listdir(folder))):
                 self.assertIn(f"{folder}/2026-01-01/site.tar.gz", doctor.put_back())

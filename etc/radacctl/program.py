@@ -6,6 +6,8 @@ import sys
 
 # As the caller spelled it, `radacctl sell`, or an older name.
 NAME = "radacctl"
+# What separates the lines of a longer text, and what is on them.
+LINES = "\n\t"
 
 
 class Failed(Exception):
@@ -21,8 +23,13 @@ def reason(fault):
     return str(fault)
 
 
+def plain(text, also=""):
+    """A text as a terminal may have it: other users chose names and lines that are in it."""
+    return "".join(it if it.isprintable() or it in also else "?" for it in str(text))
+
+
 def say(text):
-    print(f"{NAME}: {text}", file=sys.stderr, flush=True)
+    print(f"{NAME}: {plain(text, LINES)}", file=sys.stderr, flush=True)
 
 
 def fail(why, status=1):

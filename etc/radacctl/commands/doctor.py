@@ -98,11 +98,6 @@ def without_restarts(found):
             for it in found]
 
 
-def shown(text):
-    """A line as it may be printed: other users chose names and lines that are in it."""
-    return "".join(it if it.isprintable() else "?" for it in text)
-
-
 COUNTS = {
     "radacctd_doctor_fault": "Lines of the doctor with this name, when it last looked",
     "radacctd_doctor_unseen": "Sides of the site that the doctor could not look at",
@@ -138,9 +133,9 @@ def main(words):
     found = [it for it in found if not words.only or it.name in words.only]
     found.sort(key=lambda it: (it.name != "book-away", it.name not in faults.CRITICALS))
     for it in dict.fromkeys(found):
-        print(shown(f"{faults.gravity(it.name)} {it.name}: {it.text}. Do: {it.cure}"))
+        print(program.plain(f"{faults.gravity(it.name)} {it.name}: {it.text}. Do: {it.cure}"))
     for line in lost:
-        program.say(shown(f"could not look at {line}"))
+        program.say(program.plain(f"could not look at {line}"))
     if not found and not lost and not words.quiet:
         print(f"{site.words()}: nothing is wrong")
     return 4 if lost else faults.gravity_of(found)

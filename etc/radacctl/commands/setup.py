@@ -117,7 +117,7 @@ def is_wanted(words, lines):
     """Shows what is to be done. Whether to do it."""
     print("This is to be done:")
     for it in lines:
-        print(f"  - {it}")
+        print(f"  - {program.plain(it, program.LINES)}")
     if words.dry_run or words.yes:
         return not words.dry_run
     if not sys.stdin.isatty() and words.file:

@@ -2,6 +2,7 @@
 
 import os
 import re
+import shlex
 import shutil
 import tempfile
 import time
@@ -252,9 +253,10 @@ def queue(kind):
         status = look.status_of(path)
         owner = look.must("stat", "-c", "%U", path).strip() if status else "nobody"
         if owner != site.RADIUS_USER:
+            typed = shlex.quote(path)
             yield Fault("queue-folder", f"{path} belongs to {owner}: no report is answered",
-                        f"radacctl setup; or, if namei -l {path} shows no link of freerad's: "
-                        f"install -d -o freerad -g freerad -m 0700 {path}")
+                        f"radacctl setup; or, if namei -l {typed} shows no link of freerad's: "
+                        f"install -d -o freerad -g freerad -m 0700 {typed}")
     yield from states()
 
 

@@ -3,6 +3,7 @@
 import contextlib
 import os
 import re
+import shlex
 import stat
 import subprocess
 import tempfile
@@ -107,12 +108,13 @@ def mode_of(status):
 
 def open_to_others(path, most=None):
     """The fault of a file that has more rights than `most`, or else any for all other users. Of a
-    link it names what that leads to: the cure changes that.
+    link it names what that leads to: the cure changes that. Other users may have chosen names on the
+    path, and root types the cure.
     """
     path, status = os.path.realpath(path), status_of(path)
     if status and mode_of(status) & (0o007 if most is None else ~most & 0o077):
         yield Fault("mode-open", f"others may read {path}: it has {mode_of(status):o}",
-                    f"chmod {'o=' if most is None else f'{most:o}'} {path}")
+                    f"chmod {'o=' if most is None else f'{most:o}'} {shlex.quote(path)}")
 
 
 def linked(place, own):

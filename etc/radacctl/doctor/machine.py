@@ -75,9 +75,10 @@ def old_programs():
 
 
 def unit_of(process):
+    """The unit of a process: root types it. Whoever has a session chooses names of groups in it."""
     try:
         with open(f"/proc/{process}/cgroup", encoding="utf-8") as file:
-            found = re.findall(r"/([^/\n]+\.service)", file.read())
+            found = re.findall(r"/([\w:.@-]+\.service)(?=/|\s)", file.read())
     except OSError:
         found = []
     return found[-1] if found else f"its unit (process {process})"

@@ -98,7 +98,8 @@ def put_back(path=logins.FILE):
     """How logins are put back from the newest copy that has them: one of a night since may not."""
     def is_good(copy):
         with contextlib.suppress(*archive.FAULTS), tarfile.open(f"{copy}/site.tar.gz") as tar:
-            return tar.extractfile(path[1:]).read(15) == b"SQLite format 3"
+            file = tar.extractfile(path[1:])
+            return file is not None and file.read(15) == b"SQLite format 3"
 
     copy = shlex.quote(f"{copies.last_good(None, is_good) or site.BACKUPS + '/DATE'}/site.tar.gz")
     return (f"systemctl stop freeradius; mv {logins.FOLDER} /root/; tar -xpzf {copy} "
