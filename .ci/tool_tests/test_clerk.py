@@ -438,16 +438,17 @@ class Corrections(Desk):
         self.assertEqual(self.ask("anna", SALE), (200, {"result": "new"}))
 
     def test_nothing_is_credited_by_it(self):
-        """Not if the number was debited otherwise, nor if the debit gets no answer."""
-        for number, known in ((SALE["voucher"], ["bo", "500"]), (SALE["voucher"], ["room 12", "50"]),
-                              ("VOID-" + SALE["voucher"], ["room 12", "500"]),
-                              ("REFUND-" + SALE["voucher"], ["room 12", "300"])):
+        """Not if the number was debited otherwise or by hand, nor if the debit gets no answer."""
+        for number, known, error in ((SALE["voucher"], ["bo", "500"], "differs"),
+                                     (SALE["voucher"], ["room 12", "50"], "differs"),
+                                     (SALE["voucher"], ["room 12", "500"], "taken"),
+                                     ("VOID-" + SALE["voucher"], ["room 12", "500"], "taken"),
+                                     ("REFUND-" + SALE["voucher"], ["room 12", "300"], "taken")):
             self.begin()
             self.sold()
             self.books.known[number] = known
-            self.assertEqual(self.ask("anna", SALE)[0], 409)
-            self.assertEqual(self.ask("anna", SALE)[1],
-                             {"error": "differs" if number == SALE["voucher"] else "taken"})
+            for _ in range(2):
+                self.assertEqual(self.ask("anna", SALE), (409, {"error": error}))
             self.assertEqual((len(self.site.money), self.books.taken), (1, {}))
         self.begin()
         silent = mock.Mock(take=mock.Mock(side_effect=debits.NoAnswer("no")),

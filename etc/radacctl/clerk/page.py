@@ -8,6 +8,7 @@ to the socket of `clerk-work`, whose answer it gives.
     403 {"error": "not allowed"}            this cashier may not do that
     404 {"error": "no such .."}             there is no such guest, package or sale
     409 {"error": "differs"}                the number belongs to another act, guest or sale
+    409 {"error": "taken"}                  the sale was taken back by hand, or a part of it
     409 {"error": "changed"}                the package has another price or credit now
     409 {"error": "too old"}                nobody was made by this number, and nobody will be
     409 {"error": "no cut" or "not ended"}  this access server cannot be told, or did not do it

@@ -228,7 +228,7 @@ class Act:
     def debit_sale(self, account, number, is_new):
         """Debits a sale. Nothing is credited to find out whether the book has it."""
         books = debits.Books(debit.words_of())
-        self.test_journal(books, account, number)
+        self.test_journal(books, account, number, is_new)
         if is_new:
             self.note(account, journal.BEGUN)
         found = [it["sum"] for it in self.sales_of(account) if it["voucher"] == number]
@@ -242,12 +242,14 @@ class Act:
             raise debits.NoAnswer(why) from None
         self.done(account)
 
-    def test_journal(self, books, account, number):
-        """Ends if this number was debited otherwise, or by hand for the same sale."""
+    def test_journal(self, books, account, number, is_new):
+        """Ends if this number was debited otherwise, or the sale by hand: so its money was given
+        back. The page gives whoever may not take it back the command for its own number, too.
+        """
         given = books.journal.given(number)
         if given not in (None, [names.shown(names.octets_of(account)), str(self.asked["sum"])]):
             raise Refused(409, "differs")
-        if any(map(books.journal.given, debits.others_of(number))):
+        if is_new and given or any(map(books.journal.given, debits.others_of(number))):
             raise Refused(409, "taken")
 
     def sales_of(self, account):
