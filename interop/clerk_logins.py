@@ -41,6 +41,9 @@ URLS = [
     ("GET", "/me/topups", (), 401, 200, 401),
     ("POST", "/me/balance", (), 403, 403, 403),
     ("GET", "/me/overruns", (), 404, 404, 404),
+    # Handed on as it is, a line end would end the line of the request to the desk.
+    ("GET", "/me/balance%0a", (), 404, 404, 404),
+    ("POST", "/desk/topups%0a", (*DESK, "-d", SALE), 404, 404, 404),
     ("GET", "/desk", (), 301, 301, 301),
     ("GET", "/desk/", (), 401, 401, 200),
     ("POST", "/desk/topups", (*DESK, "-d", SALE), 403, 403, 200),
