@@ -254,10 +254,10 @@ def operates(site):
     day = time.strftime("%Y-%m-%d")
     check("anna is no operator", site.ask("anna", act="on"), (403, {"error": "not allowed"}))
     said = site.ask("bert", act="sales", begin=day, end=day)[1]
-    rows = {(it["desk"], it["cashier"]): (it["count"], it["credit"], it["paid"])
+    rows = {(it["desk"], it["cashier"], it["package"]): (it["count"], it["credit"], it["paid"])
             for it in said["sales"]}
-    check("sales by desk and cashier, guests at their price", rows,
-          {("D1", "anna"): (3, 700 + 2 * 50, 700 + 2 * 900)})
+    check("sales by desk, cashier and package, guests at their price", rows,
+          {("D1", "anna", ""): (1, 700, 700), ("D1", "anna", "week"): (2, 2 * 50, 2 * 900)})
     check("what was taken back", [(it["cashier"], it["number"], it["account"], it["sum"])
                                   for it in said["corrections"]],
           [("bert", "D1-261128-SALESALESALE", "al", "700")])

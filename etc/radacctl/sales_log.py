@@ -7,14 +7,14 @@ import json
 import re
 import zlib
 
-from radacctl import desk, money, names, program
+from radacctl import desk, money, names, packages, program
 
 FILE = "/var/log/nginx/radacctd-sales.log"
 # A book took the sale; or its answer was lost: the caller was gone, or the desk silent.
 TAKEN, NO_ANSWER = (200, 201), (499, 503)
 SUBJECT, ESCAPED = re.compile(rb"[A-Za-z.0-9]+="), re.compile(rb"\\([0-9A-F]{2})")
 # A sale that a book may have. `account` and `cashier` are spelled as exports spell names.
-Sale = collections.namedtuple("Sale", "status day cashier account number sum paid")
+Sale = collections.namedtuple("Sale", "status day cashier account number package sum paid")
 
 
 def lines_of(path, tell=program.say):
@@ -42,11 +42,13 @@ def sale_of(line):
         if not is_sale or type(total) is not int or money.sum_of(str(total)) is None:
             return None
         # A package has a price of its own, as the page says.
-        paid = sale.get("paid", total)
+        package, paid = sale.get("package"), sale.get("paid", total)
+        if not isinstance(package, str) or not packages.NAME.fullmatch(package):
+            package = ""
         if type(paid) is not int or not 0 <= paid <= money.LARGEST_SUM:
             paid = total
         return Sale(entry["status"], entry["time"][:10], spelled(entry["cashier"]),
-                    names.shown(names.octets_of(account)), number, total, paid)
+                    names.shown(names.octets_of(account)), number, package, total, paid)
     except (ValueError, LookupError, TypeError, AttributeError, RecursionError):
         return None
 

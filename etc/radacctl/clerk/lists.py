@@ -44,18 +44,19 @@ def servers_by_address():
 
 
 def sales(begin, end, path=None):
-    """What was sold, by day, desk and cashier: how many sales, what they put on accounts, and what
-    was paid. A package has a price of its own.
+    """What was sold, by day, desk, cashier and package: how many sales, what they put on accounts,
+    and what was paid. Only the sale itself says what was paid: among sales of one package, which have
+    one price, it shows if that was less.
     """
-    rows = {}
-    for day, number, cashier, credit, paid in [*at_desks(path or sales_log.FILE), *of_guests()]:
+    rows, all_of_them = {}, [*at_desks(path or sales_log.FILE), *of_guests()]
+    for day, number, cashier, package, credit, paid in all_of_them:
         if begin <= day <= end:
             # What stands first is the letters of the desk that gave the number.
-            key = day, number.split("-")[0], names.readable(cashier)
-            had = rows.setdefault(key, [0, 0, 0])
-            had[0], had[1], had[2] = had[0] + 1, had[1] + credit, had[2] + paid
-    return [dict(zip(("day", "desk", "cashier", "count", "credit", "paid"), (*key, *row)))
-            for key, row in sorted(rows.items(), reverse=True)]
+            key = day, number.split("-")[0], names.readable(cashier), package
+            count, credits, sums = rows.get(key, (0, 0, 0))
+            rows[key] = count + 1, credits + credit, sums + paid
+    columns = "day", "desk", "cashier", "package", "count", "credit", "paid"
+    return [dict(zip(columns, (*key, *row))) for key, row in sorted(rows.items(), reverse=True)]
 
 
 def at_desks(path):
@@ -64,17 +65,17 @@ def at_desks(path):
     for it in sorted(sales_log.sales_of(path), key=lambda it: -it.status):
         if it.status in sales_log.TAKEN:
             found.setdefault(it.number, it)
-    return [(it.day, it.number, it.cashier, it.sum, it.paid) for it in found.values()]
+    return [(it.day, it.number, it.cashier, it.package, it.sum, it.paid) for it in found.values()]
 
 
 def of_guests():
     """Each guest that was made at a desk."""
-    prices = {account: (credit, price) for account, credit, price in sold.store().read(
-        "SELECT account, json_extract(terms, '$.credit'), json_extract(terms, '$.price') "
-        "FROM login JOIN package ON package.id = login.package WHERE digest IS NULL "
-        "AND state <> 'making'")}
+    packages = {account: found for account, *found in sold.store().read(
+        "SELECT account, package.name, json_extract(terms, '$.credit'), "
+        "json_extract(terms, '$.price') FROM login JOIN package ON package.id = login.package "
+        "WHERE digest IS NULL AND state <> 'making'")}
     for line in {it.number: it for it in journal.lines_in() if it.act == "guest"}.values():
-        found = prices.get(names.octets_of(line.account))
+        found = packages.get(names.octets_of(line.account))
         if found:
             yield day_of(line.moment), line.number, sales_log.spelled(line.cashier), *found
 
