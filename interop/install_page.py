@@ -1,11 +1,13 @@
 """Follows docs/INSTALL.md on a Debian machine with systemd, from the repository, by its commands:
-from bin/install to the removal of all that it left.
+from bin/install to the removal of all that it left. Other tests install by its first steps.
 """
 
 import os
 import re
+import tempfile
 
 import clean
+import machine
 from served import CLIENT_AND_KEYS, PLANS, ROOT, check
 from service import BALANCES, CONFIG, DEFAULTS, Site, put_config, until
 
@@ -32,18 +34,34 @@ def run(box, command, folder="/root"):
     return said
 
 
+def put(box):
+    """"From the repository", for a machine without one: this one's bin/install."""
+    first, *rest = commands("From the repository")
+    with tempfile.TemporaryDirectory() as folder:
+        env = {**os.environ, "DESTDIR": folder}
+        status, said = machine.run([os.path.join(ROOT, first)], env=env)
+        check(f"{first} ends well", (status, said if status else ""), (0, ""))
+        box.copy(folder)
+    for command in rest:
+        run(box, command)
+
+
+def begin(site, config=None, before=None):
+    """"The first start", up to a command. A configuration takes the place of the sample."""
+    for command in commands("The first start"):
+        if before and command.startswith(before):
+            break
+        run(site.box, command)
+        if config and command.startswith("install -m 640"):
+            put_config(site, config)
+
+
 def first_start(site):
     """"From the repository" and "The first start"."""
-    box = site.box
-    clean.copy_tree(box)
+    clean.copy_tree(site.box)
     for command in commands("From the repository"):
-        run(box, command, clean.PLACE)
-    for command in commands("The first start"):
-        run(box, command)
-        if command.startswith("install -m 640"):
-            put_config(site, SITE)
-        if command.startswith("journalctl"):
-            break
+        run(site.box, command, clean.PLACE)
+    begin(site, SITE)
     check("it is served", (site.state(), site.asked()), ("active", 200))
 
 
