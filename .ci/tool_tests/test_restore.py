@@ -2,11 +2,13 @@
 what a backup takes for a copy.
 """
 
+import fcntl
 import os
 import shutil
 import subprocess
 import tempfile
 import unittest
+from unittest import mock
 
 from radacctl import shards
 from tool_tests import Folder, ROOT
@@ -63,7 +65,8 @@ class Restore(unittest.TestCase):
         place = lambda name: os.path.join(self.folder, name)
         command = [place("libexec/radacctd/restore"), *options, place(copy), place(f"{to}/book")]
         done = subprocess.run(command, capture_output=True, text=True)
-        return done.returncode, done.stdout + done.stderr, self.text(f"{to}/book")
+        self.said = done.stdout + done.stderr
+        return done.returncode, self.said, self.text(f"{to}/book")
 
     def test_a_copy_that_was_refused(self):
         status, said, book = self.restored("2026-11-27.bad")
@@ -99,6 +102,24 @@ class Restore(unittest.TestCase):
         self.assertEqual((status, book), (0, "2026-11-26"))
         self.assertIn("its balances were not audited", said)
 
+    def test_a_program_that_opens_the_book_meanwhile(self):
+        """It would serve a file that is no book any more."""
+        with open(os.path.join(self.folder, "now/book"), encoding="ascii") as file:
+            fcntl.flock(file, fcntl.LOCK_EX)
+            status, said, book = self.restored("2026-11-26")
+        self.assertEqual((status, book), (1, "now"), said)
+        self.assertIn("a process has opened", said)
+        self.assertEqual(os.listdir(os.path.join(self.folder, "now")), ["book"])
+
+    def test_a_disk_that_fails_as_the_book_has_lost_its_name(self):
+        self.write("sync", f"#!/bin/sh\n[ -e {self.folder}/now/book ]\n", 0o755)
+        with mock.patch.dict(os.environ, PATH=f"{self.folder}:{os.environ['PATH']}"):
+            with self.assertRaises(FileNotFoundError):
+                self.restored("2026-11-26")
+        [kept] = os.listdir(os.path.join(self.folder, "now"))
+        self.assertEqual(self.text(f"now/{kept}/book"), "now")
+        self.assertIn(f"what was there is in {self.folder}/now/{kept}", self.said)
+
     def test_a_copy_of_another_one_of_16_books(self):
         shard = shards.shard_of(b"al")
         others = [it for it in shards.SHARDS if it != shard]
@@ -129,10 +150,16 @@ class Restore(unittest.TestCase):
         self.assertEqual(self.restored("--config", config, "--unsound", "2026-11-27.bad")[0], 1)
 
 
+# What prints the user of a path, and what runs a command as that user: by a program of the test.
+AS_OWNER = """#!/bin/sh
+if [ $1 = --words ]; then echo {0}/as; else id -u; fi
+"""
+
+
 class Backup(Folder):
     """Copies of a book that no process has."""
 
-    def copied(self, act):
+    def copied(self, act, backup=os.path.join(ROOT, "etc/backup")):
         """The status, and what was said. `act` is done before the log is copied."""
         book, tools = os.path.join(self.folder, "book"), os.path.join(self.folder, "bin")
         for path in (book, book + "-wal"):
@@ -142,7 +169,7 @@ class Backup(Folder):
         with open(os.path.join(tools, "cat"), "w", encoding="ascii") as file:
             file.write(f'#!/bin/sh\ncase $* in *-wal) {act} ;; esac\nexec /bin/cat "$@"\n')
         os.chmod(file.name, 0o755)
-        words = [os.path.join(ROOT, "etc/backup"), book, os.path.join(self.folder, "copy")]
+        words = [backup, book, os.path.join(self.folder, "copy")]
         path = f"{tools}:{os.environ['PATH']}"
         done = subprocess.run(words, capture_output=True, text=True, env={"PATH": path})
         self.assertEqual(os.path.exists(words[2]), done.returncode == 0)
@@ -150,6 +177,33 @@ class Backup(Folder):
 
     def test_a_book_that_nobody_has(self):
         self.assertEqual(self.copied(":"), (0, "copied; no server had the book\n"))
+
+    def test_two_to_one_folder(self):
+        """The second would remove what the first has, which may then take its half for a copy."""
+        folder = self.folder
+        second = f"PATH={os.environ['PATH']} {ROOT}/etc/backup {folder}/book {folder}/copy"
+        status, said = self.copied(f"{second} || echo it ended with $? >&2")
+        self.assertEqual((status, said.splitlines()[-1]), (0, "it ended with 1"), said)
+        self.assertIn("another backup makes", said)
+        self.assertEqual(sorted(os.listdir(f"{folder}/copy")), ["book", "book-wal"])
+
+    def test_what_a_killed_one_left_goes(self):
+        os.makedirs(os.path.join(self.folder, "copy.part/look"))
+        self.assertEqual(self.copied(":")[0], 0)
+        self.assertEqual(sorted(os.listdir(f"{self.folder}/copy")), ["book", "book-wal"])
+
+    def test_a_log_that_cannot_be_looked_for_is_not_taken_for_none(self):
+        """The copy would be an older book, whose balances are right."""
+        for name in ("backup", "holders"):
+            shutil.copy(os.path.join(ROOT, "etc", name), self.folder)
+        ends = "case $* in 'test -e '*-wal) kill -KILL $$ ;; esac"
+        for name, text in (("as-owner", AS_OWNER.format(self.folder)),
+                           ("as", f'#!/bin/sh\n{ends}\nexec "$@"\n')):
+            with open(os.path.join(self.folder, name), "w", encoding="ascii") as file:
+                file.write(text)
+            os.chmod(file.name, 0o755)
+        status, said = self.copied(":", os.path.join(self.folder, "backup"))
+        self.assertEqual((status, said.splitlines()[-1]), (1, "backup: the copy can't be written"))
 
     def test_a_command_writes_it_and_ends_meanwhile(self):
         for number, name in enumerate(("book", "book-wal")):
