@@ -10,7 +10,7 @@ import time
 import unittest
 from unittest import mock
 
-from radacctl import desk, freeradius, shards as books, site
+from radacctl import desk, files, freeradius, shards as books, site
 from radacctl.commands import shards
 from radacctl.doctor import book, copies, front, kind
 from tool_tests import ROOT
@@ -59,13 +59,13 @@ class Joined(unittest.TestCase):
 
         def late(*words):
             with mock.patch("os.getpid", lambda: 1), mock.patch("os.fchmod", side_effect=OSError):
-                self.assertRaises(OSError, books.written, path, "account,bal", self.now)
+                self.assertRaises(OSError, files.publish, path, "account,bal", self.now)
             rename(*words)
 
         with mock.patch("os.rename", late), contextlib.suppress(FileNotFoundError):
-            books.written(path, "whole", self.now)
+            files.publish(path, "whole", self.now)
         self.assertFalse(os.path.exists(path))
-        books.written(path, "whole", self.now)
+        files.publish(path, "whole", self.now)
         with open(path, encoding="ascii") as file:
             self.assertEqual(file.read(), "whole")
         self.assertEqual([it for it in os.listdir(self.folder) if it.startswith("balances")],

@@ -91,6 +91,13 @@ def balances(path=None):
     return balances_of(files.text(path), path)
 
 
+def csv_of(header, rows):
+    """The text of a CSV file for programs."""
+    text = io.StringIO(newline="")
+    csv.writer(text, lineterminator="\n").writerows([header, *rows])
+    return text.getvalue()
+
+
 def why_not(name):
     """Why an account may not have a name, octets or a text of them, or None if it may.
 

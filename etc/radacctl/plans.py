@@ -1,7 +1,5 @@
 """Plans: block, unit and count by the octets of a class, as books and files have them."""
 
-import csv
-import io
 import json
 
 from radacctl import files, names, site
@@ -26,11 +24,9 @@ def of_book(path):
 
 def texts_of(found):
     """The files of plans in force, by their names, of plans by the octets of their classes."""
-    text = io.StringIO(newline="")
     rows = ((names.shown(name), *plan) for name, plan in found.items())
-    csv.writer(text, lineterminator="\n").writerows([HEADER, *rows])
     named = {name.decode(): dict(zip(HEADER[1:], plan)) for name, plan in found.items()}
-    return {"plans.csv": text.getvalue(),
+    return {"plans.csv": names.csv_of(HEADER, rows),
             "plans.json": json.dumps(named, indent=2, ensure_ascii=False) + "\n"}
 
 

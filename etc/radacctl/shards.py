@@ -1,10 +1,7 @@
 """The 16 books of a site: which one an account has, and one file of what all of them wrote."""
 
 import contextlib
-import csv
-import glob
 import hashlib
-import io
 import ipaddress
 import os
 import re
@@ -66,22 +63,6 @@ def balances_in(folder, shard):
     return names.balances_in(path), written
 
 
-def written(path, text, moment, mode=0o640):
-    """Writes a file whole or not at all, and follows no link; a moment is its time of change. Of two
-    at once neither gives its name to what the other one has begun: one of them fails.
-    """
-    new, flags = f"{path}.{os.getpid()}.new", os.O_CREAT | os.O_EXCL | os.O_WRONLY | os.O_NOFOLLOW
-    for it in glob.glob(f"{path}.*.new"):
-        files.remove(it)
-    handle = os.open(new, flags, 0o600)
-    with os.fdopen(handle, "w", encoding="utf-8", newline="") as file:
-        file.write(text)
-        file.flush()
-        os.fchmod(handle, mode)
-        os.utime(handle, (moment, moment))
-    os.rename(new, path)
-
-
 def as_old_as(moments):
     """The moment of what is joined: that of its oldest part. One of a time to come says nothing of
     how old its part is, which counts as older than all.
@@ -128,12 +109,11 @@ def is_new(moment):
 def join_balances(folder):
     """One file of all balances, as old as the oldest part that is not old itself."""
     rows, moments, faults = balances_of_all(folder)
-    made = io.StringIO(newline="")
-    csv.writer(made, lineterminator="\n").writerows([names.BALANCES, *rows])
     moment = as_old_as([*filter(is_new, moments)] or moments)
     # By no file at all nobody is known: each login would be told that its money is spent.
     if len(faults) < len(SHARDS):
-        written(os.path.join(folder, "balances.csv"), made.getvalue(), moment)
+        text = names.csv_of(names.BALANCES, rows)
+        files.publish(os.path.join(folder, "balances.csv"), text, moment=moment)
     if faults:
         raise faults[0]
 
@@ -149,7 +129,7 @@ def join_plans(folder):
     for name, text in plans.texts_of(all_have).items():
         path = os.path.join(folder, name)
         if files.text(path) != text:
-            written(path, text, time.time())
+            files.publish(path, text)
 
 
 def join_counts(folder):
@@ -171,4 +151,4 @@ def join_counts(folder):
                     samples.setdefault(found[1], []).append(f"{found[1]}{{{labels}}} {found[3]}\n")
     text = "".join("".join([*heads.get(name, ()), *lines]) for name, lines in samples.items())
     if text:
-        written(os.path.join(folder, "radacctd.prom"), text, as_old_as(moments), 0o644)
+        files.publish(os.path.join(folder, "radacctd.prom"), text, 0o644, as_old_as(moments))
