@@ -17,6 +17,8 @@ import tempfile
 import time
 import zlib
 
+import command_line
+
 SUITE = os.environ.get("RADACCTD_SUITE", "bookworm")
 MIRROR = "http://deb.debian.org/debian"
 # With libbpf1 Debian 13's systemd enforces which ports a unit may bind; Debian 12's never does.
@@ -38,13 +40,8 @@ NUMBERS = itertools.count(1)
 
 
 def missing(tools):
-    """Prints what is missing to run the tests, and says whether anything is."""
-    lacks = {tool: package for tool, package in tools.items() if shutil.which(tool) is None}
-    for tool, package in lacks.items():
-        print(f"{tool} is missing: the package {package} has it", file=sys.stderr)
-    if os.geteuid():
-        print("a container is for root only: run this as root", file=sys.stderr)
-    return bool(lacks) or os.geteuid() != 0
+    """Prints what is missing to run a container, and says whether anything is."""
+    return command_line.is_missing(tools, is_root=True)
 
 
 def run(words, **more):
