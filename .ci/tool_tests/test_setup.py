@@ -382,6 +382,21 @@ class Existing(Folder):
         self.assertEqual(front.secret_of("wlc", "10.0.0.1"), "of b")
         self.assertIn("secret = 'of b'\n", front.clients(None, self.wanted(one)))
 
+    def test_a_brace_in_a_secret_ends_no_client(self):
+        """Nor begins one, and a name may be in marks, as FreeRADIUS reads both."""
+        wanted = self.wanted({"name": "wlc", "address": "10.0.0.1"},
+                             {"name": "b", "address": "10.1.2.3"})
+        for name, secret in (("wlc1", "a}b"), ("wlc1", "a{b"), ('"wlc 1"', "}"), ("'wlc 1'", "{x")):
+            text = CLIENTS.replace('"of wlc1"', secret).replace("wlc1", name)
+            self.put("clients.conf", text.replace("of-the-halls-of-residence", f"halls{secret}"))
+            self.assertEqual(front.secret_of("wlc", "10.0.0.1"), secret)
+            found = dict(freeradius.blocks("client", front.clients(None, wanted)))
+            self.assertEqual(freeradius.value(found["b"], "secret"), f"halls{secret}")
+            found = self.changed("clients.conf",
+                                 lambda it: front.with_lines(it, "clients.conf", wanted))
+            lines = "\tradacctd_quota = none\n\tradacctd_cut = no\n\tradacctd_stamp = name\n}\n"
+            self.assertIn("16\n\t}\n" + lines + "client halls", found)
+
     def test_a_server_is_known_whose_listen_has_blocks_in_blocks(self):
         """As that of RadSec: else nobody would pay by it."""
         radsec = "\ttype = auth+acct\n\ttls {\n\tcache {\n\tenable = no\n\t}\n\t}\n"

@@ -35,8 +35,10 @@ QUOTED = r"""(?<!\w)(?:"(?:[^"\\\n]|\\.)*"|'(?:[^'\\\n]|\\.)*')"""
 COMMENT = r"(?<!\S)#[^\n]*"
 # What may be behind the word of a line.
 REST = r"[ \t]*(?:#[^\n]*)?"
-# What tells where a block ends. A text may have a brace: a secret, say.
-BRACES = re.compile(f"{COMMENT}|{QUOTED}|[{{}}]")
+# A value without marks goes on to a space or a comma.
+BARE = r"""(?:(?m:^)|(?<=[,{]))[ \t]*[\w.-]+[ \t]*=[ \t]*[^\s,"'][^\s,]*"""
+# What tells where a block ends. A text or a value may have a brace: a secret, say.
+BRACES = re.compile(f"{COMMENT}|{QUOTED}|{BARE}|[{{}}]")
 SERVER = re.compile(r"(?m)^\s*server\s+([\w.-]+)\s*\{")
 # A line that includes a file, or all files of a folder; $-INCLUDE also one that is not there.
 INCLUDE = re.compile(rf"""(?im)^([ \t]*\$-?INCLUDE[ \t]+)["']?([^\s"']+)["']?{REST}$""")
@@ -289,7 +291,8 @@ def end_of_block(text_of_file, begin):
 
 def blocks(word, text_of_file):
     """The blocks `client NAME { .. }`, say, of a text without comments: name and text of each."""
-    found = re.finditer(rf"(?m)^[ \t]*{word}(?:[ \t]+(\S+))?\s*\{{", text_of_file)
+    name = rf"""["']?((?<=")[^"\n]+|(?<=')[^'\n]+|[^\s{{"']+)["']?"""
+    found = re.finditer(rf"(?m)^[ \t]*{word}(?:[ \t]+{name})?\s*\{{", text_of_file)
     return [(it[1], text_of_file[it.end() : end_of_block(text_of_file, it.end())]) for it in found]
 
 

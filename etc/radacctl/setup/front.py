@@ -235,7 +235,7 @@ def with_coa(text, it, block):
 
 def in_client(text, name, lines):
     """A text whose client has more lines at its end."""
-    begun = re.search(rf"(?m)^\s*client\s+{re.escape(name)}\s*\{{", text)
+    begun = re.search(rf"""(?m)^\s*client\s+["']?{re.escape(name)}["']?\s*\{{""", text)
     end = freeradius.end_of_block(text, begun.end()) if begun else 0
     return text[:end].rstrip(" \t\n") + "\n" + "".join(lines) + text[end:] if end else text
 
