@@ -243,6 +243,28 @@ class Site(Folder):
             said = self.lost(is_new_wanted=is_new_wanted, is_away=True)
             self.assertEqual(said, "the book of radacctd.service is not at its name")
 
+    def test_a_clock_that_was_never_set_is_told(self):
+        given = setup.parser().parse_args(["site.toml"])
+        with mock.patch("time.time", lambda: 86400.0), mock.patch.object(alone, "Config") as config:
+            self.assertRaisesRegex(steps.Failed, "set it first", setup.do, given, None)
+        config.assert_not_called()
+
+    def test_a_server_is_not_led_to_an_address_of_another_machine(self):
+        """As that which a router shows to access servers: it would not start again."""
+        one = [{"name": "a", "address": "10.0.0.1"}]
+        pair = lambda own: self.wanted(pair={"own": own, "other": "127.0.0.7"})
+        alone_at = lambda it: self.wanted(freeradius=False, server=it, access_server=one)
+        with mock.patch.object(places, "DEFAULTS", self.path):
+            for wanted in (pair("192.0.2.7"), alone_at("192.0.2.7")):
+                self.assertRaisesRegex(steps.Failed, "has no address 192.0.2.7", list,
+                                       alone.of(wanted, mock.Mock()))
+            for wanted in (pair("127.0.0.6"), alone_at("127.0.0.6"), self.wanted()):
+                alone.refuse_if_elsewhere(wanted)
+            # What a site has chosen is its own.
+            for text in ("RADACCTD_BIND=--bind 0.0.0.0\n", "RADACCTD_BIND=--bind 192.0.2.7\n"):
+                self.write(text.encode())
+                alone.refuse_if_elsewhere(alone_at("192.0.2.7"))
+
     def test_the_set_up_asks_for_a_lost_book_before_all_else(self):
         """So the mark of an earlier one is still there, and a dry run says it, too."""
         for words in ([], ["--dry-run"], ["--new-book"]):

@@ -142,6 +142,7 @@ def finish(step):
 
 def do(words, wanted):
     """Installs what is missing, does each step that is not done, and shows that the site works."""
+    alone.refuse_if_undated()
     alone.refuse_if_lost(words.new_book)
     packages = alone.packages(packages_of(wanted))
     config = alone.Config(wanted)

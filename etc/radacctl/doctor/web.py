@@ -26,6 +26,7 @@ SECRETS = {
     f"{FOLDER}/cashiers": 0o640,
 }
 LOGS = "/var/log/nginx/radacctd*.log"
+FCGIWRAP = ("fcgiwrap.socket", "fcgiwrap.service")
 
 
 def look_at(kind):
@@ -214,11 +215,11 @@ def asked(text, path):
 
 
 def programs():
-    for unit in ("fcgiwrap.socket", "fcgiwrap.service"):
+    for unit in FCGIWRAP:
         found = look.properties(unit, "ActiveState", "UnitFileState")
         if found.get("ActiveState") == "active" or found.get("UnitFileState") == "enabled":
             yield Fault("fcgiwrap-open", f"{unit} of Debian runs programs for every page",
-                        "systemctl disable --now fcgiwrap.socket fcgiwrap.service")
+                        f"systemctl disable --now {' '.join(FCGIWRAP)}")
             return
 
 

@@ -5,10 +5,12 @@ import json
 import os
 import re
 import secrets
+import socket
+import time
 import tomllib
 
 from radacctl import configuration, desk, files, freeradius, names, plans, site
-from radacctl.doctor import copies, look
+from radacctl.doctor import copies, look, machine
 from radacctl.setup import steps
 from radacctl.setup.steps import Command, File, Folder, Fresh, Step
 
@@ -163,6 +165,26 @@ def defaults(text, answers):
     return with_value(text, "RADACCTD_DESK_BIND", answers.pair["own"]) if answers.pair else text
 
 
+def refuse_if_elsewhere(answers):
+    """Before a file is changed: a server that is to listen where it cannot would not start."""
+    had = files.text(site.DEFAULTS)
+    old, new = (set(re.findall(r"\d+(?:\.\d+){3}", it)) for it in (had, defaults(had, answers)))
+    for address in new - old:
+        try:
+            with socket.socket(type=socket.SOCK_DGRAM) as found:
+                found.bind((address, 0))
+        except OSError:
+            raise steps.Failed(
+                f"this machine has no address {address}, at which radacctd is to listen: give it "
+                f"that one, or write another one; or see RADACCTD_BIND in {site.DEFAULTS}") from None
+
+
+def refuse_if_undated():
+    """What is made by a clock that was never set is old once it is: a certificate, say."""
+    if time.time() < machine.YEAR_2026:
+        raise steps.Failed(f"the clock says {time.strftime('%F %T')}: set it first (timedatectl)")
+
+
 def has_book():
     """Whether a whole `init` made it: one that was killed leaves a file of no octet, or none."""
     return os.path.exists(site.BOOK) and os.stat(site.BOOK).st_size >= 100
@@ -245,6 +267,7 @@ def of(answers, config):
     yield Folder(NOTES, 0o700)
     yield ConfigFile(site.CONFIG, config.wanted, 0o640, of_group=site.USER)
     if answers.has_front or answers.server:
+        refuse_if_elsewhere(answers)
         yield File(site.DEFAULTS, lambda old: defaults(old, answers), 0o644)
     yield File(site.BOOKS_SECRET, config.clients["books"]["secret"] + "\n", 0o600)
     # The outbox of a pair takes both; the first is that of the tools.

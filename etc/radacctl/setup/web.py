@@ -212,11 +212,8 @@ def codes(config):
 
 def no_fcgiwrap():
     """Debian's own one runs programs for every page, also if it came with another package."""
-    both = ["fcgiwrap.socket", "fcgiwrap.service"]
-    wanted = "/etc/systemd/system/sockets.target.wants/fcgiwrap.socket"
-    is_off = lambda: not os.path.lexists(wanted) and not any(
-        it in steps.given(["systemctl", "list-units", "--plain", *both]) for it in both)
-    return Command("stop Debian's own fcgiwrap", is_off, "systemctl", "disable", "--now", *both)
+    return Command("stop Debian's own fcgiwrap", lambda: not [*of_web.programs()],
+                   "systemctl", "disable", "--now", *of_web.FCGIWRAP)
 
 
 class Nginx(Fresh):
