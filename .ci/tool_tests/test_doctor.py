@@ -224,7 +224,15 @@ class Steps(Folder):
     def test_no_link_is_followed(self):
         os.symlink("/etc/hostname", self.path)
         step = steps.File(self.path, lambda old: "ours\n")
-        self.assertRaises(OSError, step.do)
+        above = os.path.join(self.folder, "folder")
+        os.symlink("/var/lib", above)
+        for it in (step, steps.File(f"{above}/x", "ours\n"), steps.Folder(f"{above}/x"),
+                   steps.Link(f"{above}/x", "ours")):
+            with self.assertRaises(OSError) as why:
+                it.do()
+            # Which name leads elsewhere is for a person to see.
+            self.assertRegex(program.reason(why.exception),
+                             f"{self.folder}/f[a-z/]+: no link on the path is followed")
         self.assertTrue(os.path.islink(self.path))
 
     def test_a_secret_is_not_shown(self):

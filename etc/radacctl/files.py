@@ -160,13 +160,23 @@ def is_opened(path):
     return any(found)
 
 
+def named(why, path):
+    """The fault of a path, also if only a name of it was opened."""
+    is_link = why.errno in (errno.ELOOP, errno.ENOTDIR)
+    reason = "no link on the path is followed" if is_link else why.strerror or str(why)
+    return OSError(why.errno, reason, path)
+
+
 @contextlib.contextmanager
 def opened_folder(path):
     """A folder by its path, none of whose names is followed as a link."""
     handle = os.open("/", FOLDER)
     try:
-        for name in path.strip("/").split("/") if path.strip("/") else []:
-            inner = os.open(name, FOLDER, dir_fd=handle)
+        for name in filter(None, path.split("/")):
+            try:
+                inner = os.open(name, FOLDER, dir_fd=handle)
+            except OSError as why:
+                raise named(why, path) from None
             os.close(handle)
             handle = inner
         yield handle
@@ -185,10 +195,22 @@ def regular(folder, name):
         yield file, status
 
 
+@contextlib.contextmanager
+def opened(path):
+    """The same by its path, none of whose names is followed as a link."""
+    above, name = os.path.split(os.path.abspath(path))
+    with opened_folder(above) as folder, contextlib.ExitStack() as stack:
+        try:
+            found = stack.enter_context(regular(folder, name))
+        except OSError as why:
+            raise named(why, path) from None
+        yield found
+
+
 def read(path, most=LARGEST):
     """The octets of a file that may lie in another user's folder."""
     above, name = os.path.split(os.path.abspath(path))
-    with opened_folder(os.path.realpath(above)) as folder, regular(folder, name) as (file, _):
+    with opened(os.path.join(os.path.realpath(above), name)) as (file, _):
         return file.read(most)
 
 
@@ -198,15 +220,14 @@ def text(path):
     What a link leads to is read as the user who may change names on the path: a link could lead
     root to any file.
     """
-    above, name = os.path.split(os.path.abspath(path))
     try:
-        with opened_folder(above) as folder, regular(folder, name) as (file, _):
+        with opened(path) as (file, _):
             octets = file.read(LARGEST)
     except FileNotFoundError:
         return ""
     except OSError as why:
         if why.errno not in (errno.ELOOP, errno.ENOTDIR):
-            raise OSError(f"{path}: {why.strerror or why}") from None
+            raise OSError(f"{path}: {why.strerror}") from None
         octets = behind_links(path)
     return octets.decode("utf-8", "replace")
 

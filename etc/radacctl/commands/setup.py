@@ -215,7 +215,7 @@ def main(words):
                                "is put there, and taken out, by hand: SHARDS.md")
         remove(words) if words.remove else do(words, wanted)
     except (steps.Failed, site.Missing, OSError) as why:
-        program.say(f"{why}\nWhat is done stays. Mend it, and give the same again.")
+        program.say(f"{program.reason(why)}\nWhat is done stays. Mend it, and give the same again.")
         return 1
     finally:
         os.close(lock)

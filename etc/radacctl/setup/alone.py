@@ -113,8 +113,7 @@ class ConfigFile(File):
             if old is None or old == self.wanted(old):
                 super().do()
                 return
-            above, name = os.path.split(self.path)
-            with files.opened_folder(above) as folder:
+            with steps.placed(self.path) as (folder, name):
                 steps.keep(folder, name)
                 # The new file gets owner and mode of this one: right ones, before its new secrets.
                 if not self.has_rights(status):

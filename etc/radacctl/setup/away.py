@@ -43,8 +43,7 @@ class Gone(File):
         return not os.path.lexists(self.path)
 
     def do(self):
-        above, name = os.path.split(self.path)
-        with files.opened_folder(above) as folder:
+        with steps.placed(self.path) as (folder, name):
             if self.is_folder():
                 new = f"{name}~before-{time.strftime('%Y%m%d-%H%M%S')}"
                 os.rename(name, new, src_dir_fd=folder, dst_dir_fd=folder)
@@ -52,7 +51,6 @@ class Gone(File):
                 if not os.path.islink(self.path):
                     steps.keep(folder, name)
                 os.remove(name, dir_fd=folder)
-            os.fsync(folder)
 
 
 def lines_out(text):

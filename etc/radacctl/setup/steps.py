@@ -47,6 +47,15 @@ def group(name):
         raise Failed(f"there is no group {name}: is its package installed?") from None
 
 
+@contextlib.contextmanager
+def placed(path):
+    """The folder of a name, open, and the name in it. What is done there is on the disk then."""
+    above, name = os.path.split(path)
+    with files.opened_folder(above) as folder:
+        yield folder, name
+        os.fsync(folder)
+
+
 class Step:
     """A change: what it is, what tells whether it is done, and what does it."""
 
@@ -73,8 +82,7 @@ class Folder:
             user(self.owner), group(self.group)) and stat.S_IMODE(found.st_mode) == self.mode
 
     def do(self):
-        above, name = os.path.split(self.path)
-        with files.opened_folder(above) as folder:
+        with placed(self.path) as (folder, name):
             with contextlib.suppress(FileExistsError):
                 os.mkdir(name, 0o700, dir_fd=folder)
             handle = os.open(name, files.FOLDER, dir_fd=folder)
@@ -83,7 +91,6 @@ class Folder:
                 os.fchmod(handle, self.mode)
             finally:
                 os.close(handle)
-            os.fsync(folder)
 
 
 class File:
@@ -97,9 +104,8 @@ class File:
 
     def found(self):
         """The content and the status of what is there, or None of both."""
-        above, name = os.path.split(self.path)
         try:
-            with files.opened_folder(above) as folder, files.regular(folder, name) as (file, it):
+            with files.opened(self.path) as (file, it):
                 return file.read(), it
         except FileNotFoundError:
             return None, None
@@ -150,8 +156,7 @@ class File:
         return "".join(f"\n      {it}" for it in shown)
 
     def do(self):
-        above, name = os.path.split(self.path)
-        with files.opened_folder(above) as folder:
+        with placed(self.path) as (folder, name):
             old, status = self.found()
             new = self.wanted(old)
             is_kept = self.keeps and old is not None and old != new
@@ -173,7 +178,6 @@ class File:
             if is_kept:
                 keep(folder, name)
             os.rename(part, name, src_dir_fd=folder, dst_dir_fd=folder)
-            os.fsync(folder)
         except OSError as why:
             with contextlib.suppress(OSError):
                 os.remove(part, dir_fd=folder)
@@ -204,8 +208,7 @@ class Link:
         return os.path.islink(self.path) and os.readlink(self.path) == self.target
 
     def do(self):
-        above, name = os.path.split(self.path)
-        with files.opened_folder(above) as folder:
+        with placed(self.path) as (folder, name):
             with contextlib.suppress(FileNotFoundError):
                 if stat.S_ISREG(os.stat(name, dir_fd=folder, follow_symlinks=False).st_mode):
                     keep(folder, name)
@@ -214,7 +217,6 @@ class Link:
                 os.remove(part, dir_fd=folder)
             os.symlink(self.target, part, dir_fd=folder)
             os.rename(part, name, src_dir_fd=folder, dst_dir_fd=folder)
-            os.fsync(folder)
 
 
 class Command(Step):
