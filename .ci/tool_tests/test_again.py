@@ -636,7 +636,7 @@ class Tested(Folder):
         module = f"perl zz {{\n\tfilename = {self.path}\n}}\n"
         front.trial([steps.File(freeradius.path("mods-enabled", "zz"), module)]).do()
         with open(os.path.join(out, "uid"), encoding="ascii") as file:
-            self.assertEqual(int(file.read()), steps.user(places.RADIUS_USER))
+            self.assertEqual(int(file.read()), steps.ids(places.RADIUS_USER, "root")[0])
 
     def test_a_copy_is_tried_and_not_what_it_is_of(self):
         """A name from the root, as in a link that an administrator made, is that of the copy."""

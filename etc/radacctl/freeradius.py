@@ -218,7 +218,7 @@ def included():
 
 
 def files_at(place, name):
-    """The files of the site's own that an include of another file names, from FreeRADIUS' folder."""
+    """The files of FreeRADIUS' folder that an include of another one names, as paths in it."""
     place = re.sub(r"^\$\{(?:confdir|raddbdir)\}/", f"{site.RADDB}/", place)
     inner = os.path.relpath(path(os.path.dirname(name), place), site.RADDB)
     if "$" in inner or inner.split("/")[0] in ("..", *NO_CLIENTS):

@@ -35,6 +35,8 @@ SECRETS = {
     "/etc/radacctd-cashier.key": (0o600, ("root",), None),
     site.BOOKS_SECRET: (0o600, ("root",), None),
     site.REDEEM_KEY: (0o640, ("root",), (site.REDEEM_USER,)),
+    "/etc/nginx/radacctd/cashier.conf": (0o600, ("root",), None),
+    "/etc/nginx/radacctd/cashiers": (0o640, ("root",), None),
     site.STATE: (0o700, (site.USER,), None),
     site.BACKUPS: (0o700, ("root",), None),
 }

@@ -108,8 +108,8 @@ def mode_of(status):
 
 def open_to_others(path, most=None):
     """The fault of a file that has more rights than `most`, or else any for all other users. Of a
-    link it names what that leads to: the cure changes that. Other users may have chosen names on the
-    path, and root types the cure.
+    link it names what that leads to: the cure changes that. Another user may have named
+    it, and root types the cure.
     """
     path, status = os.path.realpath(path), status_of(path)
     if status and mode_of(status) & (0o007 if most is None else ~most & 0o077):

@@ -21,10 +21,6 @@ CHANGED = re.compile(r"^(?:server_name|ssl_|listen|include radacctd/desks|root|l
 JAILS, JAIL_LOCAL = "/etc/fail2ban/jail.d/*.[cl]o*", "/etc/fail2ban/jail.local"
 OWN = {"127.0.0.1", "127.0.0.1/8", "127.0.0.0/8", "::1", "::1/128"}
 JAIL, FILTER = "/etc/fail2ban/jail.d/radacctd.conf", "/etc/fail2ban/filter.d/radacctd.conf"
-SECRETS = {
-    f"{FOLDER}/cashier.conf": 0o600,
-    f"{FOLDER}/cashiers": 0o640,
-}
 LOGS = "/var/log/nginx/radacctd*.log"
 FCGIWRAP = ("fcgiwrap.socket", "fcgiwrap.service")
 
@@ -107,8 +103,6 @@ def serves_another(text):
 
 
 def modes(text):
-    for path, most in SECRETS.items():
-        yield from look.open_to_others(path, most)
     for path in sorted(glob.glob(LOGS)):
         if look.mode_of(os.stat(path)) & 0o007:
             yield Fault("log-open", f"others may read {path}",

@@ -173,9 +173,9 @@ def refuse_if_elsewhere(answers):
             with socket.socket(type=socket.SOCK_DGRAM) as found:
                 found.bind((address, 0))
         except OSError:
-            raise steps.Failed(
-                f"this machine has no address {address}, at which radacctd is to listen: give it "
-                f"that one, or write another one; or see RADACCTD_BIND in {site.DEFAULTS}") from None
+            raise steps.Failed(f"this machine has no address {address}, at which radacctd is to "
+                               "listen. Give it that one, or write another one into the file; or "
+                               f"write RADACCTD_BIND into {site.DEFAULTS}") from None
 
 
 def refuse_if_undated():

@@ -33,18 +33,17 @@ class Failed(Exception):
     """Why a step could not be done."""
 
 
-def user(name):
+def ids(owner, group):
+    """The numbers of a user and of a group."""
     try:
-        return pwd.getpwnam(name).pw_uid
+        return pwd.getpwnam(owner).pw_uid, grp.getgrnam(group).gr_gid
     except KeyError:
-        raise Failed(f"there is no user {name}: is its package installed?") from None
+        raise Failed(f"there is no user {owner}, or no group {group}: is its package "
+                     "installed?") from None
 
 
-def group(name):
-    try:
-        return grp.getgrnam(name).gr_gid
-    except KeyError:
-        raise Failed(f"there is no group {name}: is its package installed?") from None
+def rights_of(status):
+    return status.st_uid, status.st_gid, stat.S_IMODE(status.st_mode)
 
 
 @contextlib.contextmanager
@@ -78,8 +77,8 @@ class Folder:
 
     def is_done(self):
         found = os.lstat(self.path)
-        return stat.S_ISDIR(found.st_mode) and (found.st_uid, found.st_gid) == (
-            user(self.owner), group(self.group)) and stat.S_IMODE(found.st_mode) == self.mode
+        rights = *ids(self.owner, self.group), self.mode
+        return stat.S_ISDIR(found.st_mode) and rights == rights_of(found)
 
     def do(self):
         with placed(self.path) as (folder, name):
@@ -87,7 +86,7 @@ class Folder:
                 os.mkdir(name, 0o700, dir_fd=folder)
             handle = os.open(name, files.FOLDER, dir_fd=folder)
             try:
-                os.fchown(handle, user(self.owner), group(self.group))
+                os.fchown(handle, *ids(self.owner, self.group))
                 os.fchmod(handle, self.mode)
             finally:
                 os.close(handle)
@@ -120,16 +119,15 @@ class File:
     def rights(self, status):
         """Owner, group and mode. A file of another program keeps its own."""
         if self.mode is None and status is not None:
-            return status.st_uid, status.st_gid, stat.S_IMODE(status.st_mode)
-        return user(self.owner), group(self.group), self.mode or 0o644
+            return rights_of(status)
+        return *ids(self.owner, self.group), self.mode or 0o644
 
     def is_done(self):
         old, status = self.found()
         return old is not None and old == self.wanted(old) and self.has_rights(status)
 
     def has_rights(self, status):
-        found = status.st_uid, status.st_gid, stat.S_IMODE(status.st_mode)
-        return self.rights(status) == found
+        return self.rights(status) == rights_of(status)
 
     def text(self):
         old, _ = self.found()
