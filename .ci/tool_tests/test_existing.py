@@ -98,7 +98,8 @@ class Existing(Folder):
                          ("cut-10.0.0.1", "of wlc1", "3799"))
         self.assertEqual(front.clients(text, wanted), text)
         self.assertEqual(front.secret_of("wlc", "10.0.0.1"), "of wlc1")
-        found = self.changed("clients.conf", lambda it: front.with_lines(it, "clients.conf", wanted))
+        found = self.changed("clients.conf",
+                             lambda it: front.with_lines(it, "clients.conf", wanted))
         lines = "\tradacctd_quota = none\n\tradacctd_cut = yes\n\tradacctd_stamp = name\n}\n"
         self.assertEqual(found, CLIENTS.replace("16\n\t}\n}\n", "16\n\t}\n" + lines))
         self.put("clients.conf", found)
@@ -166,6 +167,18 @@ class Existing(Folder):
         self.assertEqual((found.pair["own"], found.pair["second"]), ("10.9.0.6", True))
         self.assertEqual(found.secrets["client-lobby"], front.secret_of("lobby"))
         self.assertIn("copy /root/p, too", text)
+
+    def test_a_client_that_may_be_in_a_table_is_told(self):
+        """Its secret is another one then: the device would be ignored."""
+        wanted = self.wanted(*({"name": f"b{it}", "address": it}
+                               for it in ("10.0.0.1", "10.9.9.9")))
+        for word, count in (("no", 0), ("yes", 1)):
+            self.put("mods-enabled/sql", f"sql {{\n\tread_clients = {word}\n}}\n")
+            told = [it for it in front.others(wanted) if "table nas" in it]
+            self.assertEqual([it.split()[0] for it in told], ["b10.9.9.9"] * count)
+        os.mkdir(os.path.join(self.folder, "radacctd"))
+        self.put("radacctd/access-servers.conf", front.clients(None, wanted))
+        self.assertEqual([it for it in front.others(wanted) if "table nas" in it], [])
 
     def test_a_part_of_a_network_keeps_its_secret(self):
         text = front.clients(None, self.wanted({"name": "b", "address": "10.1.2.3"}))

@@ -298,10 +298,16 @@ def with_lines(old, file, answers):
 
 
 def others(answers):
-    """What to say of access servers that are there with other settings than their vendor has."""
+    """What to say of access servers that are there with other settings than their vendor has, or
+    that may be in a table, which is not looked at.
+    """
     found = dict(freeradius.access_servers())
+    has_table = freeradius.value(freeradius.text("mods-enabled", "sql"), "read_clients") == "yes"
     for it in answers.access_servers if answers.has_front else []:
         there = freeradius.client_at(it["address"])
+        if has_table and not there and it["name"] not in found:
+            yield (f"{it['name']} gets a new secret, also if the table nas has one: type it there, "
+                   "or write that client into clients.conf before")
         block, usual = found.get(it["name"]) or (there[2] if there else ""), lines_of(it)
         for name in ("quota", "cut", "stamp"):
             has = freeradius.value(block, f"radacctd_{name}")
