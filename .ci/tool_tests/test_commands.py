@@ -1,20 +1,23 @@
 """What commands do with texts: keys in a configuration, files of vouchers, stock, shards."""
 
 import contextlib
+import functools
 import gzip
 import io
 import json
 import os
 import re
+import socket
 import subprocess
 import tempfile
 import tomllib
 import unittest
 from unittest import mock
 
-from radacctl import debits, desk, keys, main, names, shards as books, stock
-from radacctl.commands import debit, sell
-from tool_tests import ROOT
+from radacctl import configuration, debits, desk, files, keys, main, names, sales_log
+from radacctl import shards as books, stock
+from radacctl.commands import debit, key, redeem, sell, voucher
+from tool_tests import ROOT, Folder
 
 CONFIG = '''# A site.
 [[plan]]
@@ -135,6 +138,18 @@ class Vouchers(unittest.TestCase):
         self.assertEqual((vouchers[0].account, refused), (b" al ", {}))
         self.assertIn("is in the book, and credited", said[0])
 
+    def test_who_cannot_send_has_not_sold(self):
+        """Whatever ends a sender: no sale of it is sent, and the status says so."""
+        with tempfile.TemporaryDirectory() as folder, contextlib.redirect_stderr(io.StringIO()), \
+                contextlib.redirect_stdout(io.StringIO()) as said:
+            path = os.path.join(folder, "key")
+            with open(os.open(path, os.O_WRONLY | os.O_CREAT, 0o600), "w", encoding="ascii") as file:
+                file.write("cash-key-00000001")
+            text = io.TextIOWrapper(io.BytesIO(b"voucher,account,sum\nV-1,al,5\n"))
+            with mock.patch.object(sell.sys, "stdin", text):
+                self.assertEqual(sell.main(["--key-file", path, "--host", "127.0.0..1"]), 1)
+        self.assertIn("added 0, repeated 0, refused 0\nstopped: ", said.getvalue())
+
     def test_causes_of_the_desk_are_an_imports(self):
         found = [sell.judged(it, 0, b"") for it in (desk.NEW, desk.DIFFERS, desk.LIMIT)]
         self.assertEqual(found, ["new", "VoucherDiffers", "BalanceLimit"])
@@ -195,12 +210,43 @@ class Logged(unittest.TestCase):
         self.assertNotIn("D-4", said)
 
     def test_no_export(self):
-        for text in ("", "voucher,account,sum\nD-2,al,5\n"):
+        header = "voucher,account,sum,when\n"
+        for text, why in (("", "is no export of topups"), ("voucher,account,sum\nD-2,al,5\n", "no exp"),
+                          (header + "D-2,al", "is cut"), (header + "D-2,al,5,1,6\n", "is cut")):
             self.write(self.but, text)
             with contextlib.redirect_stderr(io.StringIO()) as said:
                 words = ["--logged", "--sales", self.log, "--but", self.but]
                 self.assertEqual(main.run(sell, words), 1)
-            self.assertIn("is no export of topups", said.getvalue())
+            self.assertIn(why, said.getvalue())
+
+    def test_a_log_that_rotates_meanwhile_is_read_whole(self):
+        """Each part gets the name of an older one, as they are read or opened."""
+        wanted, regular = [*sales_log.sales_of(self.log)], files.regular
+
+        def rotate(at, folder=None, name=None):
+            left[0] -= 1
+            if left[0] == at:
+                for old, new in ((".2.gz", ".3.gz"), (".1", ".2"), ("", ".1")):
+                    os.rename(self.log + old, self.log + new)
+                self.write(self.log)
+            return regular(folder, name) if name else None
+
+        self.assertEqual(len(wanted), 6)
+        found, left = sales_log.sales_of(self.log), [1]
+        self.assertEqual([next(found), rotate(0), *found], [wanted[0], None, *wanted[1:]])
+        for at in (2, 1, 0):
+            self.setUp()
+            left = [3]
+            with mock.patch.object(files, "regular", functools.partial(rotate, at)):
+                self.assertEqual([*sales_log.sales_of(self.log)], wanted)
+            self.assertLess(left[0], 0)
+
+    def test_no_link_or_pipe_of_the_folder_is_read(self):
+        os.mkfifo(f"{self.log}.4")
+        os.symlink(self.but, f"{self.log}.5")
+        with contextlib.redirect_stderr(io.StringIO()) as said:
+            self.assertEqual(len([*sales_log.sales_of(self.log)]), 6)
+        self.assertEqual(said.getvalue().count("cannot read"), 2)
 
 
 class Stock(unittest.TestCase):
@@ -252,6 +298,95 @@ class Stock(unittest.TestCase):
         self.assertEqual([[it[0] for it in rows] for rows in found],
                          [["given", "taken"], ["given"], ["given", "given", "taken"]])
         self.assertEqual(list(stock.events_in(b"", one)), [])
+
+
+class Sheets(Folder):
+    """Of printed vouchers: what nobody can redeem is not left to be sold."""
+
+    def setUp(self):
+        super().setUp()
+        with open(os.path.join(self.folder, "settings.json"), "w", encoding="utf-8") as file:
+            json.dump({"url": "https://a.example", "name": "H"}, file)
+        self.words = voucher.parsed(["--count", "2", "--sum", "5", "--to", self.folder, "--settings",
+                                     file.name, "--stock", os.path.join(self.folder, "stock.csv")])
+        drawn = mock.patch.object(voucher.sheets, "money", lambda *_: b"%PDF")
+        drawn.start()
+        self.addCleanup(drawn.stop)
+
+    def failing(self, name, at):
+        """What is left of a sheet as call `at` of os fails: how many files, and codes."""
+        does, calls = getattr(os, name), []
+
+        def call(*words, **more):
+            calls.append(0)
+            if len(calls) == at:
+                raise OSError(5, "Input/output error")
+            return does(*words, **more)
+
+        with mock.patch.object(os, name, call), contextlib.redirect_stderr(io.StringIO()) as said:
+            self.assertRaises(OSError, voucher.make, self.words)
+        left = [it for it in os.listdir(self.folder) if it.startswith("vouchers-")]
+        return len(left), len([*voucher.rows_of(self.words.stock)]), said.getvalue()
+
+    def test_a_sheet_that_is_not_in_the_stock_is_removed(self):
+        # A file and its folder, twice; then the stock's file.
+        for name, at in (*(("fsync", at) for at in range(1, 6)), ("rename", 1)):
+            with self.subTest(f"{name} {at}"):
+                self.assertEqual(self.failing(name, at), (0, 0, ""))
+
+    def test_a_sheet_whose_codes_are_live_stays(self):
+        """The stock has its name, and the disk gave no word for it."""
+        *found, said = self.failing("fsync", 6)
+        self.assertEqual(found, [2, 2])
+        self.assertIn("are in the stock all the same", said)
+
+    def test_another_ones_file_stays(self):
+        with mock.patch.object(voucher, "new_sheet", lambda *_: "vouchers-x"):
+            name = os.path.join(self.folder, "vouchers-x.csv")
+            with open(name, "w", encoding="ascii"):
+                pass
+            self.assertRaisesRegex(OSError, "is there already", voucher.make, self.words)
+        self.assertEqual([it for it in os.listdir(self.folder) if it.startswith("v")],
+                         ["vouchers-x.csv"])
+
+
+class Cards(Folder):
+    def test_a_card_of_a_key_that_is_live_stays(self):
+        """The configuration has its name, and the disk gave no word for it."""
+        with open(self.path, "w", encoding="utf-8") as file:
+            file.write(CONFIG)
+        sync, end = files.sync_folder, os.path.join(self.folder, "card.html")
+
+        def fails(folder):
+            if has_begun:
+                raise OSError(5, "Input/output error")
+            has_begun.append(sync(folder))
+
+        for faults, wanted in ((["wrong"], False), ([""], True)):
+            has_begun = []
+            with mock.patch.object(key, "card", lambda *_: "card"), \
+                    mock.patch.object(configuration, "fault_of", lambda *_: faults[0]), \
+                    mock.patch.object(files, "sync_folder", fails), \
+                    contextlib.redirect_stderr(io.StringIO()):
+                words = ["--config", self.path, "new", "cy", "--card", end]
+                self.assertRaises(SystemExit, key.main, words)
+            self.assertEqual(['account = "cy"' in files.text(self.path), os.path.exists(end)],
+                             [wanted, wanted])
+
+
+class Redeem(Folder):
+    def test_the_disk_is_no_desk(self):
+        """The journal has the cause that a person can cure."""
+        given = mock.Mock(state=mock.Mock(side_effect=OSError(5, "Input/output error")))
+        it = redeem.Redeeming.__new__(redeem.Redeeming)
+        it.given, it.code, it.account, it.is_noted = given, "c", "al", False
+        with socket.create_server(("127.0.0.1", 0)) as desks, \
+                mock.patch.object(redeem, "FOLDER", self.folder):
+            it.key = "k"
+            where = "{}:{}".format(*desks.getsockname())
+            with self.assertRaises(redeem.Away) as found:
+                it.credit(where, 5)
+        self.assertRegex(str(found.exception), "given.csv: Input/output error")
 
 
 class Shards(unittest.TestCase):

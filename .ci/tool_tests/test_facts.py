@@ -3,8 +3,10 @@
 import json
 import os
 import re
+import socket
 import stat
 import tempfile
+import threading
 import unittest
 from unittest import mock
 
@@ -166,6 +168,27 @@ class Desk(unittest.TestCase):
         for status, said, wanted in rows:
             self.assertEqual(desk.meaning(status, said), wanted, (status, said))
 
+    def test_half_an_answer_is_none(self):
+        """As of a desk that was killed: it may have taken the voucher, so it is sent again."""
+        head = b"HTTP/1.1 201 Created\r\nContent-Length: 16\r\n\r\n"
+        for said in (b"", head, head + b'{"result":"ne', head + b'{"result":"new"}'):
+            with socket.create_server(("127.0.0.1", 0)) as server:
+                asking = threading.Thread(target=self.answer, args=(server, said))
+                asking.start()
+                ask = lambda: desk.credit(server.getsockname(), "k", "al", 5, "V-1", patience=5)
+                if said.endswith(b"}"):
+                    self.assertEqual(ask()[0], desk.NEW)
+                else:
+                    self.assertRaises(OSError, ask)
+                asking.join()
+
+    @staticmethod
+    def answer(server, said):
+        caller, _ = server.accept()
+        with caller:
+            caller.recv(4096)
+            caller.sendall(said)
+
     def key(self, text, mode=0o600, most=1):
         with tempfile.TemporaryDirectory() as folder:
             path = os.path.join(folder, "key")
@@ -241,6 +264,19 @@ class Files(unittest.TestCase):
                 self.assertEqual(files.text(place(name)), "gr\u00f6\u00dfe", name)
             for name in ("pipe", "."):
                 self.assertRaises(OSError, files.text, place(name))
+
+    def test_a_part_of_a_text_passes_for_none_of_it(self):
+        with tempfile.TemporaryDirectory() as folder, mock.patch.object(files, "LARGEST", 4):
+            place = lambda name: os.path.join(os.path.realpath(folder), name)
+            os.symlink("most", place("link"))
+            os.symlink("more", place("longer"))
+            for name, octets, link in (("most", b"1234", "link"), ("more", b"12345", "longer")):
+                files.make(place(name), octets)
+                for it in (name, link):
+                    if name == "most":
+                        self.assertEqual(files.text(place(it)), "1234")
+                    else:
+                        self.assertRaisesRegex(OSError, "more than 4 octets", files.text, place(it))
 
     def test_no_link_or_pipe_is_read(self):
         with tempfile.TemporaryDirectory() as folder:

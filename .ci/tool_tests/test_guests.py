@@ -267,6 +267,32 @@ class Guests(unittest.TestCase):
             guest.mend(words_of(self.site, "mend"))
             self.assertEqual(self.whole_or_nothing(), 1)
 
+    def test_the_password_of_one_who_waits_is_said(self):
+        """Once the desk has answered the guest is live: nobody could say it then."""
+        self.site.answers = ["go", "lost"]
+        with contextlib.redirect_stdout(io.StringIO()) as said:
+            self.assertEqual(guest.new(words_of(self.site, "new", "Bo", "week")), 3)
+        guest.mend(words_of(self.site, "mend"))
+        [(account, state, _, password)] = self.rows()
+        self.assertEqual(state, "live")
+        self.assertIn(f"{account.decode()}, password {password}", said.getvalue())
+
+    def test_one_who_is_sold_and_cannot_be_noted_is_let_in_later(self):
+        for at in ("SET sold", "SET state = 'live'"):
+            self.site = Site(self)
+            run = logins.Store.run
+
+            def locked(store, *statements, it=at, run=run, **more):
+                if any(it in sql for sql, _ in statements):
+                    raise logins.Fault("database is locked")
+                return run(store, *statements, **more)
+
+            with self.subTest(at), mock.patch.object(logins.Store, "run", locked):
+                self.assertEqual(self.new(), 3)
+                self.assertEqual([row[1] for row in self.rows()], ["making"])
+            guest.mend(words_of(self.site, "mend"))
+            self.assertEqual(self.whole_or_nothing(), 1)
+
     def test_a_key_that_the_desk_refuses(self):
         self.site.write("cashier.key", "other-key-00000001")
         self.assertRaises(guest.NotMade, self.new)
@@ -407,6 +433,12 @@ class Codes(unittest.TestCase):
         rows = self.site.store().read("SELECT count(*) FROM login WHERE sold IS NULL")
         self.assertEqual((len(self.site.money), rows), (3, [(0,)]))
 
+    def test_a_sale_whose_answer_was_lost_is_paid(self):
+        self.site.answers = ["go", "lost", "go", "away"]
+        self.assertEqual(sold.main(["sell", "week-20261128-acdef"]), 0)
+        self.assertIn("price 27.00 EUR\nadded 3, repeated 0, refused 0", self.said.getvalue())
+        self.assertEqual(len(self.site.money), 3)
+
     def test_nothing_is_sold_by_balances_of_before(self):
         """The file lacks what the desk sold since it was written: a newer one is awaited."""
         moments = iter(range(10_000))
@@ -529,6 +561,22 @@ class Allow(unittest.TestCase):
         with contextlib.suppress(FileNotFoundError):
             os.remove(self.site.path("notes.csv"))
         return self.site.killed_at(at, lambda: self.allow("--lapse"))
+
+    def test_a_lost_answer_leaves_nobody_what_is_to_lapse(self):
+        """Whether this run credited the sum, newer balances say: those of the next run."""
+        self.site.answers = ["go", "lost"]
+        self.assertEqual(self.allow("--lapse", "--give-up", "9"), 1)
+        self.assertEqual(self.balance(), {b"al": 570, "ü 1".encode(): 600, b"bo": 695})
+        self.assertEqual(self.allow("--lapse"), 0)
+        self.assertEqual(self.balance(), {b"al": 500, "ü 1".encode(): 600, b"bo": 695})
+
+    def test_a_lost_answer_takes_nothing_of_a_sum_that_somebody_else_credited(self):
+        self.allow()
+        os.remove(self.site.path("notes.csv"))
+        self.site.answers = ["go", "lost"]
+        self.allow("--lapse", "--give-up", "9")
+        self.assertEqual(self.allow("--lapse"), 0)
+        self.assertEqual(self.balance(), {b"al": 500, "ü 1".encode(): 630, b"bo": 695})
 
     def test_balances_of_before_say_of_nobody_what_is_left(self):
         """What was used since would be taken a second time."""

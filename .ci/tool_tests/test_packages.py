@@ -643,12 +643,22 @@ class Ends(unittest.TestCase):
         self.site.login(b"al", begins="sale")
         self.site.login(b"bo")
         self.site.balances(0, {b"al": 5, b"bo": 5})
-        self.assertEqual(lapses.note_sales(self.site.store, 1000, self.site.mirror), 2)
+        now = 1_800_000_000
+        self.assertEqual(lapses.note_sales(self.site.store, now, self.site.mirror), 2)
         rows = self.site.store.read("SELECT sold, ends FROM login ORDER BY account")
-        self.assertEqual(rows, [(1000, 1100), (1000, None)])
-        lapses.note_sales(self.site.store, 2000, self.site.mirror)
+        self.assertEqual(rows, [(now, now + 100), (now, None)])
+        lapses.note_sales(self.site.store, now + 1000, self.site.mirror)
         again = self.site.store.read("SELECT sold, ends FROM login ORDER BY account")
         self.assertEqual(again, rows)
+
+    def test_no_validity_begins_before_the_clock_is_set(self):
+        """As at a boot without a battery: else the guest's week would be over once it is."""
+        self.site.login(b"al", begins="sale")
+        self.site.balances(0, {b"al": 5})
+        for now, wanted in ((5000, (None, None)), (1_800_000_000, (1_800_000_000, 1_800_000_100))):
+            lapses.sold(self.site.store, b"al", now)
+            lapses.note_sales(self.site.store, now, self.site.mirror)
+            self.assertEqual(self.site.store.read("SELECT sold, ends FROM login"), [wanted])
 
     def test_what_ended_while_the_clock_was_ahead(self):
         self.site.login(b"al")

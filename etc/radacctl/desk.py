@@ -77,7 +77,11 @@ def ask(where, method, path, key, body=None, patience=30, connect=None, most=1 <
         before()
         caller.request(method, path, body, {"Desk-Key": key, "Connection": "close"})
         response = caller.getresponse()
-        return response.status, response.read(most)
+        said = response.read(most)
+        if response.length:
+            # The desk was killed, say. It is no answer, and nobody knows what became of it.
+            raise ConnectionError("half an answer")
+        return response.status, said
     except http.client.HTTPException as why:
         raise ConnectionError(type(why).__name__) from None
     finally:

@@ -53,7 +53,11 @@ def rows_in(path, what):
             reader = csv.DictReader(file)
             if reader.fieldnames != COLUMNS[what]:
                 raise Broken(f"{path} is no export of {what}")
-            yield from reader
+            for row in reader:
+                # A field too many has no name, and one that lacks no text.
+                if None in row or None in row.values():
+                    raise Broken(f"{path} is cut, or damaged, at line {reader.line_num}")
+                yield row
     except (OSError, EOFError, zlib.error, UnicodeDecodeError, csv.Error) as fault:
         raise Broken(f"cannot read {path}: {fault}") from None
 

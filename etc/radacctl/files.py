@@ -104,10 +104,14 @@ def make(path, octets, mode=0o600, rights=None):
 
 
 def make_named(path, octets):
-    """Makes a file that a person named, on the disk by its name, too. OSError says why not."""
+    """Makes a file that a person named, on the disk by its name, too; or none, and OSError says why."""
     try:
         make(path, octets)
-        sync_folder(os.path.dirname(path))
+        try:
+            sync_folder(os.path.dirname(path))
+        except OSError:
+            remove(path)
+            raise
     except FileExistsError:
         raise OSError(f"{path} is there already: name another file") from None
     except OSError as why:
@@ -222,19 +226,22 @@ def text(path):
     """
     try:
         with opened(path) as (file, _):
-            octets = file.read(LARGEST)
+            octets = file.read(LARGEST + 1)
     except FileNotFoundError:
         return ""
     except OSError as why:
         if why.errno not in (errno.ELOOP, errno.ENOTDIR):
             raise OSError(f"{path}: {why.strerror}") from None
         octets = behind_links(path)
+    if len(octets) > LARGEST:
+        # Half of the balances, say, would pass for all of them.
+        raise OSError(f"{path} has more than {LARGEST} octets")
     return octets.decode("utf-8", "replace")
 
 
 def behind_links(path):
     """The octets of a file on whose path links are; none if there is none."""
-    octets, why = read_as_owner(path, 10, "head", "-c", str(LARGEST), "--", path)
+    octets, why = read_as_owner(path, 10, "head", "-c", str(LARGEST + 1), "--", path)
     if why and why not in ("No such file or directory", "Not a directory"):
         raise OSError(f"{path}: {why}")
     return octets

@@ -13,7 +13,7 @@ import re
 import time
 
 from radacctl import debits, files, freeradius, logins, names
-from radacctl.doctor import look
+from radacctl.doctor import look, machine
 from radacctl.program import say
 
 MIRROR = "/run/radacctd-mirror/balances.db"
@@ -77,7 +77,11 @@ def note_sales(store, now, path=MIRROR):
 
 
 def sold(store, account, now):
-    """Notes the moment of a sale, which stays the first one."""
+    """Notes the moment of a sale, which stays the first one. A clock that is not set yet notes none:
+    once it is, the timer does, and the validity begins.
+    """
+    if now < machine.YEAR_2026:
+        return
     store.run(("UPDATE login SET sold = coalesce(sold, ?), ends = CASE WHEN ends IS NULL AND "
                "(SELECT json_extract(terms, '$.begins') FROM package WHERE id = login.package) "
                "= 'sale' THEN ? + seconds ELSE ends END WHERE account = ?", (now, now, account)))

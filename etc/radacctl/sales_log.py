@@ -1,13 +1,15 @@
 """nginx' log of the sales of the front desk's page, whose older parts are compressed."""
 
 import collections
+import contextlib
 import glob
 import gzip
 import json
+import os
 import re
 import zlib
 
-from radacctl import desk, money, names, packages, program
+from radacctl import desk, files, money, names, packages, program
 
 FILE = "/var/log/nginx/radacctd-sales.log"
 # A book took the sale; or its answer was lost: the caller was gone, or the desk silent.
@@ -19,13 +21,36 @@ Sale = collections.namedtuple("Sale", "status day cashier account number package
 
 def lines_of(path, tell=program.say):
     """The lines of a log, those of its oldest part first. What cannot be read is said."""
+    with contextlib.ExitStack() as opened:
+        for name, file in parts_of(path, opened, tell):
+            try:
+                yield from gzip.open(file) if name.endswith(".gz") else file
+            except (OSError, EOFError, zlib.error) as why:
+                tell(f"cannot read {name}: {why}")
+
+
+def parts_of(path, opened, tell):
+    """The name and the file of each part, the oldest first. All are opened before one is read: a
+    rotation gives each of them the name of an older one.
+    """
     age = lambda name: [int(it) for it in re.findall(r"\d+", name[len(path) :])]
-    for name in sorted(glob.glob(glob.escape(path) + "*"), key=age, reverse=True):
-        try:
-            with (gzip.open if name.endswith(".gz") else open)(name, "rb") as file:
-                yield from file
-        except (OSError, EOFError, zlib.error) as why:
-            tell(f"cannot read {name}: {why}")
+    listed = lambda: [(it, os.lstat(it).st_ino) for it in sorted(
+        glob.glob(glob.escape(path) + "*"), key=age, reverse=True)]
+    while True:
+        with contextlib.suppress(FileNotFoundError):
+            there = listed()
+            found = [(name, part_at(name, opened, tell)) for name, _ in there]
+            if listed() == there:
+                return [it for it in found if it[1]]
+
+
+def part_at(name, opened, tell):
+    try:
+        return opened.enter_context(files.regular(None, name))[0]
+    except FileNotFoundError:
+        raise
+    except OSError as why:
+        return tell(f"cannot read {name}: {why}")
 
 
 def sales_of(path, tell=program.say):

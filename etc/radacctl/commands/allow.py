@@ -107,6 +107,11 @@ class Allowing:
             self.notes.add(row, left)
             found = self.desk.outcome(sells.Record(at, row.number, row.account, row.sum))
             self.counts[found] += 1
+            if self.books and found == "repeat" and self.desk.is_lost:
+                # Was the lost answer the first one? Newer balances say it, so the next run does.
+                self.faults.append(f"`{names.shown(row.account)}`: an answer of the desk was lost, so "
+                                   "what was left stays until the same is given again")
+                continue
             if found == "repeat":
                 # What is left now has this month in it. Somebody who noted nothing credited it; or a
                 # run of ours, which may have been killed before it knew that it was not the first.

@@ -105,11 +105,10 @@ def new(words):
         mend_all(logins_store, words)
         account, password, is_sold = make(logins_store, words, words.name, package, site_money,
                                           url, words.card)
-    if not is_sold:
-        return 3
+    # Also of one who waits for the desk: nobody could say the password later.
     where = f"the card is {words.card}" if words.card else f"{account}, password {password}"
     program.show(f"{words.name}: {where}; {package.title}, {site_money.shown(package.price)}")
-    return 0
+    return 0 if is_sold else 3
 
 
 def make(logins_store, words, name, package, site_money, url, card=None, note=lambda account: None):
@@ -194,11 +193,7 @@ def complete(logins_store, account, guest, words, is_lost=False):
     """
     result, is_lost = asked(account, guest["sum"], words, is_lost)
     if result in ("new", "repeat"):
-        lapses.sold(logins_store, account.encode(), int(time.time()))
-        logins_store.run(("UPDATE login SET state = 'live' WHERE account = ? AND state = 'making'",
-                          (account.encode(),)))
-        drafts.drop(account)
-        return True
+        return is_let_in(logins_store, account)
     if not is_lost or result in sells.CAUSES.values():
         take_back(logins_store, account, guest, words)
         why = NoKey if result == desks.NO_KEY else NotMade
@@ -208,19 +203,31 @@ def complete(logins_store, account, guest, words, is_lost=False):
     return False
 
 
+def is_let_in(logins_store, account):
+    """Lets a guest log in who is sold; whether that is done, or waits for the next run."""
+    try:
+        lapses.sold(logins_store, account.encode(), int(time.time()))
+        logins_store.run(("UPDATE login SET state = 'live' WHERE account = ? AND state = 'making'",
+                          (account.encode(),)))
+    except logins.Fault as why:
+        say(f"{account} is sold, and logs in within a minute, or by radacctl guest mend: {why}")
+        return False
+    drafts.drop(account)
+    return True
+
+
 def asked(account, total, words, is_lost):
     """What the desk said of the sale, and whether a try without an answer may have reached it."""
     try:
         desk = sells.desk_of(words)
-        desk.is_lost = is_lost
         record = sells.Record(1, number_of(account), account.encode(), total)
-        return desk.outcome(record), desk.is_lost
+        return desk.outcome(record), is_lost or desk.is_lost
     except desks.WrongKey as why:
         say(why)
         return desks.NO_KEY, is_lost
     except sells.Stop as why:
         say(why.line)
-        return desks.NO_KEY if str(why) == "NoKey" else desks.AWAY, desk.is_lost
+        return desks.NO_KEY if str(why) == "NoKey" else desks.AWAY, is_lost or desk.is_lost
 
 
 def take_back(logins_store, account, guest, words):

@@ -93,7 +93,8 @@ def new(words):
     try:
         changed = configuration.change(words.config, decide)
     except BaseException:
-        if words.card:
+        # The key may be in place, and only the disk's word for it is lacking.
+        if words.card and token not in keys.read(words.config):
             os.remove(words.card)
         raise
     status = servers.wait_for_server(words, changed)

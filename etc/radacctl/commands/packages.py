@@ -214,6 +214,9 @@ def credit(words, logins_store, found, known):
             try:
                 record = sells.Record(at, number_of(it.account), it.account, it.credit)
                 outcomes[at] = desk.outcome(record)
+                if outcomes[at] == "repeat" and desk.is_lost:
+                    # The answer that was lost was the first one: the guest is to pay.
+                    outcomes[at] = "new"
             except sells.Stop as why:
                 stop = why
         if outcomes.get(at) in ("new", "repeat"):

@@ -107,9 +107,13 @@ class Redeeming:
         """Says that the code is for the account, on the disk: unless it was withdrawn just now."""
         if self.is_noted:
             return
-        with stocks.locked(FOLDER, LOCK):
-            worth(self.code, self.given.state(self.code), self.account)
-            self.given.note(stocks.GIVEN, self.code, self.account, " ".join(self.desks()))
+        try:
+            with stocks.locked(FOLDER, LOCK):
+                worth(self.code, self.given.state(self.code), self.account)
+                self.given.note(stocks.GIVEN, self.code, self.account, " ".join(self.desks()))
+        except OSError as fault:
+            # It is no fault of the desk, which got nothing.
+            raise Away(f"{GIVEN}: {program.reason(fault)}") from None
         self.is_noted = True
 
     def desks(self):

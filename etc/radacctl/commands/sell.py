@@ -184,12 +184,12 @@ class Desk:
         self.where, self.key, self.give_up = where, key, give_up
         self.lock = threading.Lock()
         self.answered_at, self.is_away = time.monotonic(), False
-        # Whether a try that had no answer of the desk's may have reached it.
+        # Whether a try of the last voucher that had no answer of the desk's may have reached it.
         self.is_lost = False
 
     def outcome(self, record):
         """`new`, `repeat`, or the cause for which it was refused."""
-        pause, account = FIRST_PAUSE, names.for_desk(record.account)
+        pause, account, self.is_lost = FIRST_PAUSE, names.for_desk(record.account), False
         while True:
             try:
                 found, status, body = desks.credit(self.where, self.key, account, record.sum,
@@ -248,7 +248,9 @@ class Sale:
                 record = waiting.popleft()
             try:
                 outcome = self.desks[book].outcome(record)
-            except Stop as stop:
+            except Exception as why:
+                # As of a host that is misspelled: that nothing is sent is said, whatever it was.
+                stop = why if isinstance(why, Stop) else Stop(type(why).__name__, str(why))
                 with self.lock:
                     self.stops.setdefault(book, stop)
                 return

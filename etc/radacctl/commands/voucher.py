@@ -129,11 +129,27 @@ def make(words):
     with stocks.locked(os.path.dirname(words.stock)):
         sheet = new_sheet(words.to, {it.sheet for it in rows_of(words.stock)})
     name = os.path.join(words.to, sheet)
-    files.make_named(name + ".pdf", sheets.money(codes, texts, url + "/redeem/"))
-    files.make_named(name + ".csv", b"code,sum\n" + stocks.lines_of([it, total] for it in codes))
-    add_to_stock(words.stock, codes, total, sheet)
+    texts = {".pdf": sheets.money(codes, texts, url + "/redeem/"),
+             ".csv": b"code,sum\n" + stocks.lines_of([it, total] for it in codes)}
+    made = []
+    try:
+        for end, octets in texts.items():
+            files.make_named(name + end, octets)
+            made.append(name + end)
+        add_to_stock(words.stock, codes, total, sheet)
+    except BaseException:
+        unmake(made, words.stock, codes)
+        raise
     print(f"{len(codes)} vouchers of {worth}, {together} together: {name}.pdf, {name}.csv")
     return 0
+
+
+def unmake(made, path, codes):
+    """Removes the files of a sheet whose codes are not in the stock: nobody is to sell it."""
+    if not {it.code for it in rows_of(path)}.isdisjoint(codes):
+        return program.say(f"the codes of {made[0]} are in the stock all the same: see --list")
+    for it in made:
+        files.remove(it)
 
 
 class Stock:
