@@ -101,6 +101,9 @@ class Answers(unittest.TestCase):
             file.flush()
             found = answers.read(file.name)
         self.assertEqual((found.usual_class, len(found.access_servers)), ("default", 1))
+        # As an editor of Windows writes it.
+        found = self.read("\ufeff" + setup.SAMPLE.replace("\n", "\r\n"))
+        self.assertEqual((found.usual_class, len(found.access_servers)), ("default", 1))
 
     def test_what_is_wrong_is_named(self):
         self.assertIn("no member `hots`", self.wrong(hots="x"))

@@ -145,6 +145,16 @@ class Existing(Folder):
             lines = "\tradacctd_quota = none\n\tradacctd_cut = no\n\tradacctd_stamp = name\n}\n"
             self.assertIn("16\n\t}\n" + lines + "client halls", found)
 
+    def test_a_text_of_several_lines_ends_no_section(self):
+        """As a query of a module for SQL, whatever braces it has."""
+        text = '\tupdate {\n\t\t&Tmp-String-0 := "%{sql:UPDATE x \\\n    a=%{b c} } \\\n d"\n\t}\n'
+        own = SERVER.replace("accounting {\n", f"accounting {{\n{text}")
+        inside = freeradius.section(own, "accounting")
+        self.assertEqual(inside, f"\n{text}\tdetail\n\tsql\n\t-sql\n")
+        found = front.default(own, self.wanted(sql={"password_file": "/root/x"}), "x")
+        self.assertIn(f"accounting {{\n\tradacctd_accounting\n{text}\tdetail\n", found)
+        self.assertEqual(away.lines_out(found), own)
+
     def test_a_server_is_known_whose_listen_has_blocks_in_blocks(self):
         """As that of RadSec: else nobody would pay by it."""
         radsec = "\ttype = auth+acct\n\ttls {\n\tcache {\n\tenable = no\n\t}\n\t}\n"

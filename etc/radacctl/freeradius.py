@@ -30,8 +30,9 @@ UNITS = ("radacctd-mirror.service", "radacctd-front.service", "radacctd-clock.se
          "radacctd-clock.timer")
 # What begins a line that a set-up wrote, or made a comment.
 MARK = "# radacctl setup:"
-# A text in quotation marks of either kind, and a comment. A mark within a word begins no text.
-QUOTED = r"""(?<!\w)(?:"(?:[^"\\\n]|\\.)*"|'(?:[^'\\\n]|\\.)*')"""
+# A text in quotation marks of either kind, and a comment. A mark within a word begins no text. One
+# that ends a line with a backslash goes on.
+QUOTED = r"""(?<!\w)(?:"(?:[^"\\\n]|\\[\s\S])*"|'(?:[^'\\\n]|\\[\s\S])*')"""
 COMMENT = r"(?<!\S)#[^\n]*"
 # What may be behind the word of a line.
 REST = r"[ \t]*(?:#[^\n]*)?"

@@ -280,7 +280,8 @@ def read(path):
     try:
         with open(path, "rb") as file:
             status = os.fstat(file.fileno())
-            text = file.read().decode()
+            # As an editor of Windows marks it.
+            text = file.read().decode("utf-8-sig")
         found = Answers(tomllib.loads(text.replace("\r\n", "\n")))
         need(not found.secrets or not stat.S_IMODE(status.st_mode) & 0o077,
              f"others may read {path}, which has secrets: chmod 600 {path}")
