@@ -43,8 +43,7 @@ BRACES = re.compile(f"{COMMENT}|{QUOTED}|{BARE}|[{{}}]")
 SERVER = re.compile(r"(?m)^\s*server\s+([\w.-]+)\s*\{")
 # A line that includes a file, or all files of a folder; $-INCLUDE also one that is not there.
 INCLUDE = re.compile(rf"""(?im)^([ \t]*\$-?INCLUDE[ \t]+)["']?([^\s"']+)["']?{REST}$""")
-# Which files of a folder FreeRADIUS reads; and the folders that have no clients.
-READ = re.compile(r"[A-Za-z0-9_-][A-Za-z0-9._-]*")
+# The folders that have no clients.
 NO_CLIENTS = ("mods-enabled", "policy.d", "sites-enabled", "radacctd")
 
 
@@ -153,11 +152,15 @@ def with_line(text_of_site, word):
     return re.sub(rf"(?m)^([ \t]*){MARK} ((?:{word}){REST})$", r"\1\2", text_of_site)
 
 
+def names_in(folder):
+    """The names of a folder that FreeRADIUS reads, if it includes the folder."""
+    found = sorted(os.listdir(path(folder))) if os.path.isdir(path(folder)) else []
+    return [it for it in found if re.fullmatch(r"[A-Za-z0-9_-][A-Za-z0-9._-]*", it)]
+
+
 def enabled():
-    """The site's own files of sites-enabled, as FreeRADIUS reads them."""
-    folder = path("sites-enabled")
-    found = sorted(os.listdir(folder)) if os.path.isdir(folder) else []
-    return [it for it in found if READ.fullmatch(it) and not it.startswith("radacctd")]
+    """The site's own files of sites-enabled."""
+    return [it for it in names_in("sites-enabled") if not it.startswith("radacctd")]
 
 
 def file_of(server):
@@ -224,10 +227,8 @@ def files_at(place, name):
     inner = os.path.relpath(path(os.path.dirname(name), place), site.RADDB)
     if "$" in inner or inner.split("/")[0] in ("..", *NO_CLIENTS):
         return []
-    found = [inner]
-    if place.endswith("/") and os.path.isdir(path(inner)):
-        found = [os.path.join(inner, it) for it in sorted(os.listdir(path(inner)))
-                 if READ.fullmatch(it)]
+    is_folder = place.endswith("/")
+    found = [os.path.join(inner, it) for it in names_in(inner)] if is_folder else [inner]
     return [it for it in found if os.path.isfile(path(it))]
 
 
