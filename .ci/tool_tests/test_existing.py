@@ -7,7 +7,7 @@ import unittest
 from unittest import mock
 
 from radacctl import freeradius, lapses, site as places
-from radacctl.doctor import front as doctor_front
+from radacctl.doctor import front as doctor_front, packages as doctor_packages
 from radacctl.setup import answers, away, front, pair, sql, steps
 from tool_tests.test_setup import Folder, PLAN
 
@@ -363,6 +363,18 @@ class Existing(Folder):
             self.assertEqual([it[:len(said)] for it in front.others(wanted)], [said])
         self.put("sites-enabled/eduroam", SERVER)
         self.assertEqual(list(front.others(wanted)), [])
+
+    def test_the_doctor_looks_for_packages_in_each_server_of_a_file(self):
+        more = "preacct {\n}\npost-auth {\n\tPost-Auth-Type REJECT {\n\t}\n"
+        text = SERVER.replace("post-auth {\n", more)
+        text += text.replace("eduroam", "more")
+        found = front.default(text, self.wanted(packages=True), "x")
+        begin = found.index("server more")
+        for line in ("", "\tradacctd_packages\n", "\tradacctd_packages_login\n",
+                     "\tradacctd_packages_report\n"):
+            self.put("sites-enabled/eduroam", found[:begin] + found[begin:].replace(line, "", 1))
+            told = [it.text for it in doctor_packages.lines() if "sites-enabled/eduroam" in it.text]
+            self.assertEqual(told, ["sites-enabled/eduroam lacks a line of packages"] * bool(line))
 
     def test_logins_and_reports_may_have_a_server_each(self):
         """Then a file is taken for one server, as its first lines say."""

@@ -9,7 +9,7 @@ import time
 from radacctl import archive, files, freeradius, logins, names, packages, plans, site
 from radacctl.doctor import copies, front
 from radacctl.doctor.faults import Fault
-from radacctl.setup import packages as wanted
+from radacctl.setup import front as setup_front, packages as wanted
 from radacctl.setup.steps import Failed
 
 # How long a guest may be begun, or a debit decided, in seconds.
@@ -39,12 +39,12 @@ def lines():
                         CURE)
     if logins.CONF not in freeradius.own_included(freeradius.text("radiusd.conf")):
         yield Fault("packages-steps", f"radiusd.conf does not include radacctd/{logins.CONF}", CURE)
-    places = [(it, wanted.default) for it in freeradius.selling()]
-    places += [(it, wanted.inner) for it in freeradius.tunnels() or ["inner-tunnel"]]
-    for name, change in places:
+    places = [(it, wanted.default, setup_front.SOLD) for it in freeradius.selling()]
+    places += [(it, wanted.inner, ["post-auth"]) for it in freeradius.tunnels() or ["inner-tunnel"]]
+    for name, change, sections in places:
         text = files.text(freeradius.path("sites-enabled", name))
         try:
-            lacks = text and change(text) != text
+            lacks = text and freeradius.with_servers(text, change, *sections) != text
         except Failed:
             lacks = True
         if lacks:
