@@ -1,6 +1,8 @@
 """What operators see and end at their page: sessions, sales, corrections, codes, the doctor."""
 
+import contextlib
 import gzip
+import io
 import json
 import os
 import unittest
@@ -153,8 +155,9 @@ home_server lobby {
         with mock.patch.object(lists.sales_log.program, "say"):
             self.assertEqual(len(report.cashiers_of(self.site.path("sales.log"))), 5)
         os.remove(self.site.path("sales.log.2.gz"))
-        words = sell.parser().parse_args(["--logged", "--sales", self.site.path("sales.log")])
-        self.assertEqual(len(sell.logged(words)[0]), 5)
+        with contextlib.redirect_stdout(io.StringIO()) as printed:
+            self.assertEqual(sell.main(["--logged", "--sales", self.site.path("sales.log")]), 0)
+        self.assertEqual(len(printed.getvalue().splitlines()), 1 + 5)
 
     def test_a_guests_sale_is_one_once_the_desk_took_it(self):
         day = lists.day_of(NOW)

@@ -57,6 +57,16 @@ def sales_of(path, tell=program.say):
     return filter(None, map(sale_of, lines_of(path, tell)))
 
 
+def by_number(sales):
+    """The sale of each number: as it was answered first, 201, or again, 200; else one whose answer
+    was lost. Of two alike it is the first.
+    """
+    found = {}
+    for it in sorted(sales, key=lambda it: (it.status in TAKEN, it.status), reverse=True):
+        found.setdefault(it.number, it)
+    return found
+
+
 def sale_of(line):
     """The sale of a line, or None: a cashier may send anything."""
     try:

@@ -60,12 +60,10 @@ def sales(begin, end, path=None):
 
 
 def at_desks(path):
-    """Each sale of nginx' log that a book took, once. Its first answer is 201."""
-    found = {}
-    for it in sorted(sales_log.sales_of(path), key=lambda it: -it.status):
-        if it.status in sales_log.TAKEN:
-            found.setdefault(it.number, it)
-    return [(it.day, it.number, it.cashier, it.package, it.sum, it.paid) for it in found.values()]
+    """Each sale of nginx' log that a book took, once."""
+    found = sales_log.by_number(sales_log.sales_of(path)).values()
+    return [(it.day, it.number, it.cashier, it.package, it.sum, it.paid) for it in found
+            if it.status in sales_log.TAKEN]
 
 
 def of_guests():

@@ -61,11 +61,8 @@ class Money(int):
 
 def cashiers_of(path):
     """The cashier of each voucher that nginx' logs of sales have."""
-    # Of a sale that was sent again: 201 is its first answer, and 200 that it is known. Of one that
-    # the book has all the same, the answer was lost.
-    rank = lambda it: (it.status in sales_log.TAKEN, it.status)
-    return {it.number: it.cashier for it in sorted(sales_log.sales_of(path), key=rank)
-            if it.cashier}
+    found = sales_log.by_number(it for it in sales_log.sales_of(path) if it.cashier)
+    return {number: it.cashier for number, it in found.items()}
 
 
 def cashiers_of_guests():

@@ -318,24 +318,14 @@ def dry_run(vouchers, refused, stops):
     return end_of_report(refused, stops)
 
 
-def logged(words):
-    """The sales of nginx' logs: those that were answered, and the numbers of those that were not."""
-    answered, others = {}, set()
-    for it in sales_log.sales_of(words.sales, program.fail):
-        if it.day >= (words.since or ""):
-            if it.status in sales_log.TAKEN:
-                # Of two of one number the first counts.
-                answered.setdefault(it.number, (it.number, it.account, it.sum))
-            else:
-                others.add(it.number)
-    return answered, others - set(answered)
-
-
 def print_logged(words):
+    """Prints the sales of nginx' logs that were answered, and says which were not."""
     known = {it["voucher"] for it in exports.rows_in(words.but, "topups")} if words.but else ()
-    answered, others = logged(words)
-    rows = [it for number, it in answered.items() if number not in known]
-    for number in sorted(others.difference(known)):
+    found = sales_log.by_number(it for it in sales_log.sales_of(words.sales, program.fail)
+                                if it.day >= (words.since or ""))
+    answered = [it for it in found.values() if it.status in sales_log.TAKEN]
+    rows = [(it.number, it.account, it.sum) for it in answered if it.number not in known]
+    for number in sorted(found.keys() - {it.number for it in answered} - set(known)):
         program.say(f"{number} was not answered: it is not in the file, and its page sends it again")
     sys.stdout.write(stock.lines_of([HEADER, *rows]).decode())
     total = sum(row[2] for row in rows)
