@@ -14,7 +14,7 @@ from unittest import mock
 from radacctl import desk as desks
 from radacctl import cards, codes, configuration, debits, drafts, files, lapses, logins, money
 from radacctl import main, names, servers, site, stock
-from radacctl.commands import allow, guest, packages as sold
+from radacctl.commands import allow, debit, guest, packages as sold
 from tool_tests.test_packages import Books, Here, MEMORY, PACKAGE
 
 CONFIG = '[[plan]]\nclass = "default"\nblock = 1\nunit = 1\n'
@@ -438,6 +438,22 @@ class Codes(unittest.TestCase):
         self.assertEqual(sold.main(["sell", "week-20261128-acdef"]), 0)
         self.assertIn("price 27.00 EUR\nadded 3, repeated 0, refused 0", self.said.getvalue())
         self.assertEqual(len(self.site.money), 3)
+
+    def test_a_sale_at_the_page_in_the_same_seconds_is_said(self):
+        """No balances have it as the code is credited; those that are written next do."""
+        self.site.money["D1-1"] = (self.account(0), 500)
+        twice = {self.account(0): 1000, self.account(1): 500}
+        for after, status in (({self.account(1): 500}, 0), (twice, 1)):
+            self.site.money = {"D1-1": (self.account(0), 500)}
+            self.site.numbers = {}
+            with mock.patch.object(names, "balances", mock.Mock(side_effect=[{}, after])), \
+                    contextlib.redirect_stderr(io.StringIO()) as said:
+                self.assertEqual(self.sell(), status)
+            lines = [it for it in said.getvalue().splitlines() if "radacctl debit" in it]
+            self.assertEqual(len(lines), status)
+        words = lines[0].partition("radacctl debit ")[2].split()
+        self.assertEqual(words, ["t-000000000000", "500", "VOID-P-T-000000000000"])
+        self.assertEqual(debit.debit_of(*words)[1], 500)
 
     def test_nothing_is_sold_by_balances_of_before(self):
         """The file lacks what the desk sold since it was written: a newer one is awaited."""

@@ -44,14 +44,22 @@ def sold():
     return {row[1]: (int(row[3]), int(row[4])) for row in stock.rows_in(LOG, LOG_HEADER)}
 
 
-def await_balances(moment, path=None):
+def are_written(moment, path):
     """Waits until the balances were written since a moment: what was sold before it is in them."""
+    end = time.monotonic() + WRITTEN
     # Those of a time to come were written before it, by a clock that was ahead.
-    path, end = path or site.BALANCES, time.monotonic() + WRITTEN
     while not os.path.exists(path) or not moment <= os.stat(path).st_mtime <= time.time():
         if time.monotonic() > end:
-            fail(f"{path} is not written anew: nothing was done. Is radacctd running?")
+            return False
         time.sleep(0.2)
+    return True
+
+
+def await_balances(moment, path=None):
+    """The same; without them nothing is done."""
+    path = path or site.BALANCES
+    if not are_written(moment, path):
+        fail(f"{path} is not written anew: nothing was done. Is radacctd running?")
 
 
 def known_accounts():

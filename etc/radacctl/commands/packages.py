@@ -18,7 +18,8 @@ this address, in which {code} stands for the code; else one of the code.
 No code logs in before it is sold: none is made of a package whose plan costs nothing. `sell`
 credits what the package gives, once for each code. WHAT is a serial number, as t-0123456789ab, or a
 sheet. A sale at the desk's page counts as well: `sell` waits until radacctd has written the
-balances anew, and credits nothing more for it. A package whose end (`until`) is past is not sold.
+balances anew, and credits nothing more for it. Then it waits for those of the sale, and says which
+code the page sold meanwhile, too. A package whose end (`until`) is past is not sold.
 
 `withdraw` ends codes that were lost or stolen, and their sessions. What is left on them lapses, also
 on codes that guests have paid for: it says how many these are, and asks. With --unsold it ends only
@@ -227,7 +228,24 @@ def credit(words, logins_store, found, known):
         say(f"{before} of these codes were sold before, here or at the desk's page: nothing was "
             "credited for them")
     program.show(f"price {moneys.of_site().shown(price)}")
-    return sells.report(outcomes, {}, {"": stop} if stop else {})
+    status = sells.report(outcomes, {}, {"": stop} if stop else {})
+    return sold_twice([it for at, it in enumerate(found, 1) if outcomes.get(at) == "new"]) or status
+
+
+def sold_twice(found):
+    """Says which of these codes the desk's page sold in the same seconds, whose balances did not have
+    it yet: 1 if there is one.
+    """
+    if found and not codes.are_written(time.time(), site.BALANCES):
+        say(f"{site.BALANCES} is not written anew, so look whether the desk's page sold one, too")
+        return 0
+    left = names.balances() if found else {}
+    twice = [it for it in found if left.get(it.account, 0) > it.credit]
+    for it in twice:
+        name = names.shown(it.account)
+        say(f"{name} was sold at the desk's page in the same seconds, too. If only one was paid: "
+            f"radacctl debit {name} {it.credit} VOID-{number_of(it.account)}")
+    return 1 if twice else 0
 
 
 def withdraw(words):
