@@ -463,6 +463,10 @@ class Sound(unittest.TestCase):
         [fault] = fronts.tunnel()
         self.assertIn("sites-enabled/inside has no radacctd_login", fault.text)
         text = "server inner-tunnel {\npost-auth {\nradacctd_login\n}\n}\n"
+        # One behind another server in its file, too.
+        self.put(text.replace("inner-tunnel", "x") + text.replace("radacctd_login\n", ""),
+                 "sites-enabled", "inside")
+        self.assertEqual([it.name for it in fronts.tunnel()], ["tunnel-login"])
         self.put(text, "sites-enabled", "inside")
         self.assertEqual(list(fronts.tunnel()), [])
 

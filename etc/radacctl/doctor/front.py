@@ -106,8 +106,8 @@ def sections(name):
 def tunnel():
     """A login by PEAP or TTLS gets its name and Class from the inner tunnel."""
     for name in freeradius.tunnels():
-        inner = freeradius.text("sites-enabled", name)
-        if "radacctd_login" not in freeradius.section(inner, "post-auth").split():
+        found = [it.split() for _, it in sections(name) if it]
+        if not found or not all("radacctd_login" in it for it in found):
             yield Fault("tunnel-login", f"sites-enabled/{name} has no radacctd_login in post-auth: "
                         "logins by PEAP and TTLS are refused", f"step 7 of {PAGE}")
 
