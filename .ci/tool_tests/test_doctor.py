@@ -458,7 +458,8 @@ class Sound(unittest.TestCase):
         self.assertEqual(len([it for it in found if "does not include" in it.text]), 3)
 
     def test_a_tunnel_whose_file_has_another_name(self):
-        self.put("peap {\n\tvirtual_server = inner-tunnel\n}\n", "mods-enabled", "eap")
+        self.put("tls {\n\tvirtual_server = x\n}\n", "mods-enabled", "eap")
+        self.put("peap {\n\tvirtual_server = inner-tunnel\n}\n", "mods-enabled", "eap_staff")
         self.put("server inner-tunnel {\npost-auth {\n}\n}\n", "sites-enabled", "inside")
         [fault] = fronts.tunnel()
         self.assertIn("sites-enabled/inside has no radacctd_login", fault.text)

@@ -169,12 +169,15 @@ def file_of(server):
                 None)
 
 
+def eaps():
+    """The modules of EAP: a site may have several, each with its certificate."""
+    return [f"mods-enabled/{it}" for it in names_in("mods-enabled") if it.startswith("eap")]
+
+
 def tunnels():
     """The files of the virtual servers that PEAP and TTLS log in by."""
-    eap = text("mods-enabled", "eap")
-    if not re.search(r"(?m)^\s*(?:peap|ttls)\s*\{", eap):
-        return []
-    names = set(re.findall(r'(?m)^\s*virtual_server\s*=\s*"?([\w.-]+)', eap))
+    found = [it for it in map(text, eaps()) if re.search(r"(?m)^\s*(?:peap|ttls)\s*\{", it)]
+    names = re.findall(r'(?m)^\s*virtual_server\s*=\s*"?([\w.-]+)', "\n".join(found))
     return sorted({it for it in map(file_of, names) if it})
 
 

@@ -174,7 +174,7 @@ def cut_off():
 
 def certificates():
     """The certificate of PEAP, TTLS, TLS and RadSec: without it nobody logs in by these."""
-    places = ["mods-enabled/eap", *(f"sites-enabled/{it}" for it in freeradius.enabled())]
+    places = [*freeradius.eaps(), *(f"sites-enabled/{it}" for it in freeradius.enabled())]
     text = "\n".join(map(freeradius.text, places))
     named = re.findall(r"""(?m)^\s*certificate_file\s*=\s*["']?([^"'\s]+)""", text)
     cure = "systemctl restart freeradius"
