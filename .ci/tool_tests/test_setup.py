@@ -416,10 +416,15 @@ class Proving(unittest.TestCase):
 
 class Others(Folder):
     def test_the_pages_settings_are_on_the_disk(self):
-        with mock.patch("os.fsync") as fsync, contextlib.redirect_stdout(io.StringIO()):
-            pages.write(self.path, {"name": "x"})
-        self.assertEqual(fsync.call_count, 2)
-        self.assertEqual(stat.S_IMODE(os.stat(self.path).st_mode), 0o644)
+        self.write(b"{}")
+        given = ["--plans", self.path, "--to", os.path.join(self.folder, "web")]
+        for count in (3, 0):
+            with mock.patch("os.fsync") as fsync, contextlib.redirect_stdout(io.StringIO()):
+                pages.main(given)
+            # The link, and the file with its name.
+            self.assertEqual(fsync.call_count, count)
+        self.assertEqual(os.readlink(f"{given[3]}/plans.json"), self.path)
+        self.assertEqual(stat.S_IMODE(os.stat(f"{given[3]}/settings.json").st_mode), 0o644)
 
     def test_a_card_outlives_a_power_cut(self):
         with mock.patch("os.fsync") as fsync:

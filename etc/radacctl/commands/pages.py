@@ -19,27 +19,9 @@ import json
 import os
 
 from radacctl import files, program, site
-from radacctl.program import fail
+from radacctl.setup.steps import Link
 
 SETTINGS = {"name": "", "url": "", "currency": "", "decimals": 2, "time_classes": ""}
-
-
-def write(path, value):
-    """Writes a file, whole and on the disk or not at all, for everyone to read."""
-    text = json.dumps(value, indent=2, ensure_ascii=False) + "\n"
-    files.replace(path, text.encode(), 0o644)
-    print(f"{path} is written")
-
-
-def link(path, plans):
-    """Makes a name a link to the plans, in the place of a file of an earlier version."""
-    if os.path.islink(path) and os.readlink(path) == plans:
-        print(f"{path} is as it was")
-        return
-    files.remove(path + ".new")
-    os.symlink(plans, path + ".new")
-    os.rename(path + ".new", path)
-    print(f"{path} is a link to {plans}")
 
 
 def parser():
@@ -51,14 +33,22 @@ def parser():
 
 def main(words):
     words = parser().parse_args(words)
-    plans, settings = (os.path.join(words.to, it) for it in ("plans.json", "settings.json"))
     os.makedirs(words.to, mode=0o755, exist_ok=True)
-    link(plans, os.path.abspath(words.plans))
+    plans, settings = (os.path.join(os.path.realpath(words.to), it)
+                       for it in ("plans.json", "settings.json"))
+    link = Link(plans, os.path.abspath(words.plans))
+    if link.is_done():
+        print(f"{plans} is as it was")
+    else:
+        link.do()
+        print(f"{plans} is a link to {link.target}")
     if os.path.exists(settings):
         print(f"{settings} is as it was")
     else:
-        write(settings, SETTINGS)
+        text = json.dumps(SETTINGS, indent=2, ensure_ascii=False) + "\n"
+        files.replace(settings, text.encode(), 0o644)
+        print(f"{settings} is written")
     if not os.path.exists(words.plans):
-        fail(f"{words.plans} is not there yet: radacctd writes it as it starts, and of 16 books "
-             "radacctd-shards: journalctl -u radacctd-shards -n 20")
+        program.fail(f"{words.plans} is not there yet: radacctd writes it as it starts, and of 16 "
+                     "books radacctd-shards: journalctl -u radacctd-shards -n 20")
     return 0

@@ -18,7 +18,7 @@ import shutil
 import stat
 import time
 
-from radacctl import files, freeradius, site
+from radacctl import files, freeradius, program, site
 from radacctl.doctor import look, machine
 
 # Lines that have a secret are not printed: one that is named so, or a line that is nothing else.
@@ -29,7 +29,7 @@ TRIAL = "/run/radacctd-trial"
 MARKS = "/run/radacctd-setup"
 
 
-class Failed(Exception):
+class Failed(program.Failed):
     """Why a step could not be done."""
 
 
