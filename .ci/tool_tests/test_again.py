@@ -291,7 +291,7 @@ class Again(Folder):
         self.patched(web, "JAIL", self.put("[radacctd]\n"))
         for start, later, is_done in (("a", -60, False), ("b", 60, True)):
             self.started(start, later=later)
-            self.assertEqual(web.Jail().is_done(), is_done)
+            self.assertEqual(web.watching().is_done(), is_done)
 
     def test_a_front_desk_that_nobody_named_is_told(self):
         self.patched(of_web, "JAIL", self.put("", "jail.d", "radacctd.conf"))
@@ -479,8 +479,8 @@ class Again(Folder):
         self.patched(web, "JAIL", self.put("[radacctd]\n"))
         self.patched(steps.time, "monotonic", iter(range(0, 999, 30)).__next__)
         self.started(later=-3600)
-        web.Jail().do()
-        self.assertTrue(web.Jail().is_done())
+        web.watching().do()
+        self.assertTrue(web.watching().is_done())
 
     def test_who_was_started_again_by_hand_is_known_by_the_clock(self):
         for start, later, is_done in (("a", -60, False), ("b", 60, True), ("c", -60, False)):
@@ -534,7 +534,7 @@ class Again(Folder):
             self.started(later=60)
             self.patched(machine, "lacks_group", lambda *_, it=lacks: it)
             self.patched(of_web, "serves_another", lambda _, it=another: it)
-            self.assertEqual(web.Nginx().is_done(), is_done)
+            self.assertEqual(web.nginx().is_done(), is_done)
 
     def test_the_doctor_says_so(self):
         self.patched(book.look, "run", lambda *_: (0, places.READERS))

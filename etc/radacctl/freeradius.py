@@ -108,16 +108,15 @@ def begins_with(block, names):
 
 
 def place_of_section(text_of_site, name):
-    """Where a section of a virtual server is between its braces: begin and end, or None."""
+    """Where a section of a virtual server is between its braces: begin and end, 0 if it is not."""
     found = re.search(rf"(?m)^[ \t]*{name}[ \t]*\{{", text_of_site)
     end = end_of_block(text_of_site, found.end()) if found else len(text_of_site)
-    return (found.end(), end) if end < len(text_of_site) else None
+    return (found.end(), end) if end < len(text_of_site) else (0, 0)
 
 
 def section(text_of_site, name):
     """What a section of a virtual server has between its braces, or ""."""
-    begin, end = place_of_section(text_of_site, name) or (0, 0)
-    return text_of_site[begin:end]
+    return text_of_site[slice(*place_of_section(text_of_site, name))]
 
 
 def servers_in(text_of_file, *names):
@@ -141,7 +140,7 @@ def without_line(text_of_site, name, word):
     """A virtual server in a section of which the line of a word is a comment, with the mark: the
     site may have such a comment of its own.
     """
-    begin, end = place_of_section(text_of_site, name) or (0, 0)
+    begin, end = place_of_section(text_of_site, name)
     line, marked = rf"(?m)^([ \t]*)((?:{word}){REST})$", rf"\1{MARK} \2"
     inside = re.sub(line, marked, text_of_site[begin:end])
     return text_of_site[:begin] + inside + text_of_site[end:]

@@ -277,11 +277,13 @@ class Trial(Step):
 class Fresh(Step):
     """Restarts a unit that has not read its files as they are, once a test of these is well.
 
-    The clock, which may be set at any time, is asked only of a start that no set-up has seen.
+    The clock, which may be set at any time, is asked only of a start that no set-up has seen. What
+    else is to hold is waited for if there is a word for it that it does not.
     """
 
-    def __init__(self, what, unit, paths, test=()):
+    def __init__(self, what, unit, paths, test=(), holds=lambda: True, why=""):
         self.what, self.unit, self.paths, self.test = what, unit, paths, test
+        self.holds, self.why = holds, why
 
     def is_done(self):
         it, found = look.properties(self.unit, "InvocationID"), self.statuses()
@@ -290,7 +292,7 @@ class Fresh(Step):
         if begun and start != it.get("InvocationID"):
             is_fresh = begun * 1e9 >= max((each[-1] for each in found), default=0)
             known = self.mark(found if is_fresh else None)
-        return bool(begun) and known == ascii(found)
+        return bool(begun) and known == ascii(found) and self.holds()
 
     def statuses(self):
         """What any change of a file changes. A link that changed is as new as what it leads to."""
@@ -317,6 +319,8 @@ class Fresh(Step):
             refuse_if_away()
         given(["systemctl", "restart", self.unit])
         self.mark(found)
+        if self.why:
+            wait_until(self.holds, 60, lambda: self.why)
 
 
 def refuse_if_away():

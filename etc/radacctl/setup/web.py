@@ -39,7 +39,7 @@ def of(answers, config):
     yield from clerk.of(answers)
     yield Command("take Debian's own page of nginx away", lambda: not has_debians_page(), "rm",
                   "-f", DEFAULT)
-    yield Nginx()
+    yield nginx()
     yield unit("nginx.service")
     yield from fail2ban(answers)
 
@@ -216,15 +216,11 @@ def no_fcgiwrap():
                    "systemctl", "disable", "--now", *of_web.FCGIWRAP)
 
 
-class Nginx(Fresh):
+def nginx():
     """nginx runs with the files as they are, which it has tested, and may read the balances."""
-
-    def __init__(self):
-        super().__init__("test and restart nginx", "nginx.service", [CONF, f"{FOLDER}/*"], TEST)
-
-    def is_done(self):
-        lacks = machine.lacks_group(self.unit, site.WEB_USER, site.READERS)
-        return super().is_done() and not lacks and not of_web.serves_another(files.text(CONF))
+    lacks = lambda: machine.lacks_group("nginx.service", site.WEB_USER, site.READERS)
+    holds = lambda: not lacks() and not of_web.serves_another(files.text(CONF))
+    return Fresh("test and restart nginx", "nginx.service", [CONF, f"{FOLDER}/*"], TEST, holds)
 
 
 def fail2ban(answers):
@@ -237,20 +233,12 @@ def fail2ban(answers):
     sshd = "[sshd]\nbackend = systemd\n"
     yield File(SSHD, lambda old: old or sshd, 0o644)
     yield unit("fail2ban.service")
-    yield Jail()
+    yield watching()
 
 
-class Jail(Fresh):
+def watching():
     """fail2ban watches the pages, by the files as they are."""
-
-    def __init__(self):
-        super().__init__("let fail2ban watch the pages", "fail2ban.service", [FILTER, JAIL, SSHD])
-
-    def is_done(self):
-        words = ("fail2ban-client", "status", "radacctd")
-        return super().is_done() and look.run(*words, seconds=30)[0] == 0
-
-    def do(self):
-        super().do()
-        why = "fail2ban has no jail radacctd: tail /var/log/fail2ban.log"
-        steps.wait_until(self.is_done, 60, lambda: why)
+    holds = lambda: look.run("fail2ban-client", "status", "radacctd", seconds=30)[0] == 0
+    why = "fail2ban has no jail radacctd: tail /var/log/fail2ban.log"
+    return Fresh("let fail2ban watch the pages", "fail2ban.service", [FILTER, JAIL, SSHD],
+                 holds=holds, why=why)
