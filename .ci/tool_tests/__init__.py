@@ -11,6 +11,11 @@ sys.dont_write_bytecode = True
 ROOT = os.path.dirname(os.path.dirname(os.path.dirname(os.path.abspath(__file__))))
 sys.path.insert(0, os.path.join(ROOT, "etc"))
 
+from radacctl.setup import steps
+
+# Others may test the same on this machine now.
+steps.TRIAL += f"-{os.getpid()}"
+
 
 def script(*path):
     """A script of the repository, as a module."""

@@ -624,7 +624,6 @@ class Tested(Folder):
     def setUp(self):
         super().setUp()
         os.chmod(self.folder, 0o711)
-        self.patched(steps, "TRIAL", f"/run/radacctd-trial-{os.getpid()}")
 
     def test_a_test_of_freeradius_runs_its_code_as_its_user(self):
         """Its user may write the files, and so what root would run."""
@@ -692,7 +691,6 @@ class Tested(Folder):
 class Pages(Folder):
     def test_a_fault_of_nginx_changes_nothing(self):
         """As a certificate that is not there: other pages of that nginx would be gone at a boot."""
-        self.patched(steps, "TRIAL", f"/run/radacctd-trial-{os.getpid()}")
         self.patched(web, "CONF", "/etc/nginx/conf.d/radacctd-zz.conf")
         self.patched(web, "FOLDER", "/etc/nginx/radacctd")
         self.patched(files, "sample", lambda *_: self.sample)
