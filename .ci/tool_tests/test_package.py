@@ -110,7 +110,8 @@ class Installation(unittest.TestCase):
                 pass
             done = run()
         self.assertEqual(done.returncode, 1)
-        self.assertRegex(done.stderr, "Then install this package again.*\n.*radacctl setup")
+        self.assertRegex(done.stderr, "Then install this package again.*systemctl enable --now "
+                                      "radacctd.*\n.*radacctl setup")
 
     def test_a_pairs_tools_are_where_its_units_run_them(self):
         """With each prefix: bin/install writes it into no part of radacctl."""
