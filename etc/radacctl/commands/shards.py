@@ -35,7 +35,6 @@ gave radacctd-sell no answer. `for`, `debit` and `key` end as their command does
 """
 
 import argparse
-import csv
 import os
 import subprocess
 import sys
@@ -196,7 +195,7 @@ def check(words, _table):
     for shard in books.SHARDS:
         try:
             rows = books.balances_in(words.balances, shard)
-        except (OSError, ValueError, csv.Error) as fault:
+        except (OSError, ValueError) as fault:
             faults.append(f"{shard}: {fault}")
             continue
         faults += faults_of(shard, rows, words.oldest)
@@ -233,7 +232,7 @@ def join(words, _table):
             try:
                 act(folder)
                 said = None
-            except (OSError, ValueError, csv.Error) as fault:
+            except (OSError, ValueError) as fault:
                 said = str(fault)
             if said and said != told.get(act):
                 program.say(said)
