@@ -1,6 +1,7 @@
 """What the night's copy takes for a damaged book, and what only for a full disk or memory."""
 
 import contextlib
+import datetime
 import io
 import os
 import pathlib
@@ -104,6 +105,15 @@ class Night(unittest.TestCase):
         self.assertEqual((status, len(names)), (0, 1), said)
         self.assertRegex(names[0], rf"^{name}\.\d{{6}}$")
         self.assertTrue(os.path.exists(self.place(f"backups/exports/{names[0]}/taken")))
+
+    def test_copies_of_days_to_come_take_no_place(self):
+        """A clock that was ahead for a while made them: only this night's copy would stay."""
+        today = datetime.date.today()
+        days = [str(today + datetime.timedelta(it)) for it in (-20, -2, -1, *range(300, 320))]
+        for it in days:
+            os.makedirs(self.place(f"backups/{it}"))
+        status, said, names = self.night()
+        self.assertEqual((status, sorted(names)), (0, sorted([*days, str(today)])), said)
 
     def test_a_book_that_is_damaged(self):
         for text in ("db: Unbalanced\n", "db: cannot open\n", "db: Unavailable\n"):
