@@ -52,7 +52,7 @@ def systemd(folder):
         raise Missing("systemd-container and debootstrap, and root")
     os.mkdir(folder)
     with tempfile.TemporaryDirectory() as staged:
-        start_site.staged(staged)
+        machine.staged(staged)
         with Machine(start_site.PACKAGES, states=STATES) as box:
             start_site.prepare_packages(box, staged)
             start_site.set_up(box)

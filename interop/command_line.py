@@ -2,9 +2,12 @@
 
 import os
 import shutil
+import subprocess
 import sys
 
 import __main__
+
+IS_BUILT = os.path.join(os.path.dirname(os.path.abspath(__file__)), "..", "bin", "is-built")
 
 
 def words(*numbers, parts=()):
@@ -29,11 +32,15 @@ def words(*numbers, parts=()):
 
 
 def is_missing(tools, is_root=False):
-    """Whether a tool is missing, which a package has, or root is: it prints what."""
+    """Whether a tool is missing, which a package has, or root or the program is: it prints what. No
+    script is to build the program for an hour. RADACCTD in the environment names another one.
+    """
     lacks = [f"{tool} is missing: the package {package} has it" for tool, package in tools.items()
              if shutil.which(tool) is None]
     if is_root and os.geteuid():
         lacks.append("run this as root")
+    if "RADACCTD" not in os.environ and subprocess.run([IS_BUILT]).returncode:
+        lacks.append("the program is not built of these sources: bin/build")
     if lacks:
         print(*lacks, sep="\n", file=sys.stderr)
     return bool(lacks)

@@ -36,14 +36,12 @@ def run(box, command, folder="/root"):
 
 def put(box):
     """"From the repository", for a machine without one: this one's bin/install."""
-    first, *rest = commands("From the repository")
     with tempfile.TemporaryDirectory() as folder:
-        env = {**os.environ, "DESTDIR": folder}
-        status, said = machine.run([os.path.join(ROOT, first)], env=env)
-        check(f"{first} ends well", (status, said if status else ""), (0, ""))
+        machine.staged(folder)
         box.copy(folder)
-    for command in rest:
-        run(box, command)
+    for command in commands("From the repository"):
+        if command != "bin/install":
+            run(box, command)
 
 
 def begin(site, config=None, before=None):

@@ -50,6 +50,14 @@ def run(words, **more):
     return done.returncode, done.stdout + done.stderr
 
 
+def staged(folder):
+    """Puts below a folder of this machine what bin/install puts in place."""
+    root = os.path.dirname(os.path.dirname(os.path.abspath(__file__)))
+    status, text = run([f"{root}/bin/install"], env={**os.environ, "DESTDIR": folder})
+    if status:
+        raise SystemExit(f"bin/install ended with {status}: {text}")
+
+
 def groups(name):
     """The folders of a control group of this name, below this process' own: one in each tree that a
     systemd uses.

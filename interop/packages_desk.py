@@ -230,7 +230,7 @@ def buttons(folder):
     if machine.missing(TOOLS):
         raise Missing("what the part's module names, and root")
     with tempfile.TemporaryDirectory() as staged:
-        start_site.staged(staged)
+        machine.staged(staged)
         with Machine(start_site.PACKAGES, states=STATES) as box:
             start_site.prepare_packages(box, staged)
             box.write(ANSWERS, box.must(f"cat {ANSWERS}") + FREE, 0o600)

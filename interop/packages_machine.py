@@ -82,7 +82,7 @@ def systemd(folder):
     if machine.missing({**machine.TOOLS, "hostapd": "hostapd", "wpa_supplicant": "wpasupplicant"}):
         raise Missing("systemd-container, debootstrap, hostapd and wpasupplicant, and root")
     with tempfile.TemporaryDirectory() as staged:
-        start_site.staged(staged)
+        machine.staged(staged)
         with Machine(start_site.PACKAGES, states=STATES) as box:
             start_site.prepare_packages(box, staged)
             start_site.set_up(box)

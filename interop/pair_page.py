@@ -485,9 +485,7 @@ def hardened(it):
 def follow():
     """Two machines from the top of the page."""
     with tempfile.TemporaryDirectory() as staged, contextlib.ExitStack() as opened:
-        words = [os.path.join(ROOT, "bin", "install")]
-        environment = {**os.environ, "DESTDIR": staged}
-        subprocess.run(words, env=environment, check=True, stdout=subprocess.DEVNULL)
+        machine.staged(staged)
         machines = [opened.enter_context(machine.Machine(machine.SITE)) for _ in ADDRESSES]
         one, two = machines
         wire(machines)

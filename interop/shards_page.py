@@ -8,7 +8,6 @@ It needs what pair_page.py needs.
 import contextlib
 import os
 import re
-import subprocess
 import tempfile
 import time
 
@@ -281,9 +280,7 @@ def doctored(site):
 def follow():
     """Two machines from the top of the page."""
     with tempfile.TemporaryDirectory() as staged, contextlib.ExitStack() as opened:
-        words = [os.path.join(ROOT, "bin", "install")]
-        environment = {**os.environ, "DESTDIR": staged}
-        subprocess.run(words, env=environment, check=True, stdout=subprocess.DEVNULL)
+        machine.staged(staged)
         machines = [opened.enter_context(machine.Machine(machine.SITE)) for _ in ADDRESSES]
         one, two = machines
         pair_page.wire(machines)

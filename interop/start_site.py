@@ -1,11 +1,10 @@
 """A machine on which `radacctl setup` makes a whole site."""
 
-import os
 import secrets
 import time
 
 import machine
-from served import ROOT, check
+from served import check
 
 PACKAGES = [*machine.SITE, "fail2ban", "nftables", "python3-systemd", "openssl"]
 HOST, RADDB = "accounts.hotel.test", "/etc/freeradius/3.0"
@@ -13,13 +12,6 @@ ANSWERS = "/root/site.toml"
 # A container has no clock of its own to keep.
 CLOCK = "#!/bin/sh\necho NTP=yes\necho NTPSynchronized=yes\n"
 NOTES = "/root/radacctd-setup"
-
-
-def staged(folder):
-    """What bin/install puts in place."""
-    env = {**os.environ, "DESTDIR": folder}
-    status, text = machine.run([os.path.join(ROOT, "bin", "install")], env=env)
-    check("bin/install ends well", (status, text if status else ""), (0, ""))
 
 
 def answers(box):
