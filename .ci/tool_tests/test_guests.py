@@ -230,6 +230,27 @@ class Guests(unittest.TestCase):
                 self.assertEqual([*drafts.all_of_them()], [])
                 self.assertIn(f"aa-000{number}-a.json is damaged", said.call_args[0][0])
 
+    def test_a_card_that_the_timer_may_not_remove_holds_up_nobody(self):
+        """Its unit may write to few folders, and a card may be in /root."""
+        card, at = self.site.path("card.html"), 0
+        while not os.path.exists(card):
+            at += 1
+            self.site = Site(self)
+            card = self.site.path("card.html")
+            self.site.killed_at(at, self.new)
+        [(_, guest_of)] = drafts.all_of_them()
+        self.assertEqual(guest_of["step"], drafts.BEGUN)
+        remove = files.remove
+
+        def read_only(path):
+            if path == card:
+                raise OSError(30, "Read-only file system")
+            remove(path)
+
+        with mock.patch.object(files, "remove", read_only):
+            guest.mend(words_of(self.site, "mend"))
+        self.assertEqual(([*drafts.all_of_them()], self.rows()), ([], []))
+
     def test_each_step_fails(self):
         """A full disk, say: nothing is left, at once."""
         for where, name, at in ((configuration, "change", 1), (files, "make", 1), (files, "make", 2),

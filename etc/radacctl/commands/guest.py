@@ -234,8 +234,12 @@ def take_back(logins_store, account, guest, words):
     """Removes key, card and account of a guest to whom nothing was sold. The draft goes last."""
     end_keys({account.encode()}, words)
     card = guest["card"]
-    if card and os.path.isfile(card) and f"<code>{account}</code>" in files.text(card):
-        files.remove(card)
+    try:
+        if card and os.path.isfile(card) and f"<code>{account}</code>" in files.text(card):
+            files.remove(card)
+    except OSError as why:
+        # The timer may write to few folders, and other guests are not to wait for this one.
+        say(f"remove {card}, by which nobody logs in: {program.reason(why)}")
     logins_store.run(("DELETE FROM login WHERE account = ? AND state = 'making'",
                       (account.encode(),)))
     drafts.drop(account)
