@@ -340,6 +340,14 @@ class Sheets(Folder):
         self.assertEqual(found, [2, 2])
         self.assertIn("are in the stock all the same", said)
 
+    def test_a_sheet_is_named_though_the_output_is_full(self):
+        """Its codes are live: who is not told of it would print others."""
+        with open("/dev/full", "w", encoding="utf-8") as full, \
+                mock.patch.object(voucher.sys, "stdout", full), \
+                contextlib.redirect_stderr(io.StringIO()) as said:
+            self.assertEqual(voucher.make(self.words), 0)
+        self.assertIn("2 vouchers of 5, 10 together: ", said.getvalue())
+
     def test_another_ones_file_stays(self):
         with mock.patch.object(voucher, "new_sheet", lambda *_: "vouchers-x"):
             name = os.path.join(self.folder, "vouchers-x.csv")
@@ -442,6 +450,8 @@ class Program(unittest.TestCase):
             self.assertEqual((done.returncode, done.stderr), (0, b"done\n"))
             done = subprocess.run(words, stdout=full, stderr=full, cwd=ROOT)
             self.assertEqual(done.returncode, 0)
+        done = subprocess.run(["sh", "-c", '"$@" >&-', "sh", *words], stderr=subprocess.PIPE, cwd=ROOT)
+        self.assertEqual((done.returncode, done.stderr), (0, b"done\n"))
         # A terminal whose letters are not those of a guest's name: the password would be lost.
         words[-1] = text + "sys.stdout.reconfigure(encoding='latin-1'); program.show('\u0141 pass')"
         done = subprocess.run(words, stdout=subprocess.DEVNULL, stderr=subprocess.PIPE, cwd=ROOT)

@@ -392,6 +392,22 @@ class Guests(unittest.TestCase):
         row = list(csv.reader(io.StringIO(said.getvalue())))[1]
         self.assertEqual(row[1], "'=1+2")
 
+    def test_a_list_has_no_marks_for_a_terminal(self):
+        """FreeRADIUS' user writes the database that root lists."""
+        self.new("Bo")
+        odd = "\x1b]0;x\x07\u202e"
+        self.site.store().run(
+            ("UPDATE package SET name = ?", (odd,)),
+            ("UPDATE login SET state = ?, sheet = 'week-20261128-acdef', notes = ?",
+             (odd, json.dumps({"name": odd}))))
+        for words in ([guest, "list"], [sold, "list"], [sold, "list", "week-20261128-acdef"]):
+            with contextlib.redirect_stdout(io.StringIO()) as said:
+                words[0].main(words[1:])
+            self.assertIn("?]0;x??", said.getvalue())
+            self.assertTrue(said.getvalue().replace("\n", "").isprintable())
+        self.site.store().run(("UPDATE login SET notes = '{\"name\": 5}'", ()))
+        self.assertEqual(len([*guest.found(self.site.store(), "5")]), 1)
+
     def test_wifi_texts(self):
         open_one = guest.wifi_text({"name": 'a;b"', "security": "open"}, "x", "y")
         self.assertEqual(open_one, 'WIFI:T:nopass;S:a\\;b\\";;')

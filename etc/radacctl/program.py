@@ -55,7 +55,8 @@ def show(text):
     """Prints what is done already, also if it cannot be printed, as on a full disk, or on a terminal
     without its letters: then it is said on standard error.
     """
-    for stream in (sys.stdout, sys.stderr):
+    # One that the caller has closed is None.
+    for stream in filter(None, (sys.stdout, sys.stderr)):
         try:
             return print(text, file=stream, flush=True)
         except (OSError, UnicodeError):

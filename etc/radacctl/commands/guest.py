@@ -334,9 +334,10 @@ def found(logins_store, text):
         "FROM login JOIN package ON package.id = login.package WHERE digest IS NULL "
         "ORDER BY made, account"
     ):
-        spelled, name = names.shown(row[0]), row[1] or ""
-        if wanted in folded(spelled) or wanted in folded(name):
-            yield [spelled, name, *row[2:]]
+        # FreeRADIUS' user writes this database.
+        spelled, *texts = names.shown(row[0]), *(program.plain(it or "") for it in row[1:4])
+        if wanted in folded(spelled) or wanted in folded(texts[0]):
+            yield [spelled, *texts, *row[4:]]
 
 
 def show(words):

@@ -130,8 +130,8 @@ def print_codes(words):
     except (logins.Fault, stock.Fault, OSError) as why:
         fail(f"{why}\nIts codes may log nobody in: sell none of {path} unless radacctl packages "
              f"list {sheet} has them. Else remove it, and print others")
-    print(f"{len(made)} codes of {package.name}, {money.shown(package.price)} each: {path}. "
-          f"None is sold yet: radacctl packages sell {sheet}")
+    program.show(f"{len(made)} codes of {package.name}, {money.shown(package.price)} each: {path}. "
+                 f"None is sold yet: radacctl packages sell {sheet}")
     return 0
 
 
@@ -301,7 +301,9 @@ def show(words):
         terms = (f"{money.shown(it.price)}, gives {money.shown(it.credit)}, {it.validity()}, "
                  f"{it.devices} device{'s' * (it.devices != 1)}"
                  f"{', then slow' * (it.slow is not None)}") if it else "no longer in the file"
-        print(f"{name}: {terms}; made {made}, live {live}, sold {sold}, used {used}, over {over}")
+        # FreeRADIUS' user writes the database, which may have other names than the file.
+        print(f"{program.plain(name)}: {terms}; made {made}, live {live}, sold {sold}, used {used}, "
+              f"over {over}")
     return 0
 
 
@@ -314,7 +316,7 @@ def show_sheet(logins_store, sheet):
     for account, state, *moments in rows:
         if state == logins.LIVE and moments[2] is not None and moments[2] <= time.time():
             state = "over"
-        table.append([names.shown(account), state, *map(moment_of, moments)])
+        table.append([names.shown(account), program.plain(state), *map(moment_of, moments)])
     sys.stdout.write(stock.lines_of(table).decode())
     return 0
 

@@ -140,7 +140,7 @@ def make(words):
     except BaseException:
         unmake(made, words.stock, codes)
         raise
-    print(f"{len(codes)} vouchers of {worth}, {together} together: {name}.pdf, {name}.csv")
+    program.show(f"{len(codes)} vouchers of {worth}, {together} together: {name}.pdf, {name}.csv")
     return 0
 
 
