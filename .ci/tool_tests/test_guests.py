@@ -476,6 +476,25 @@ class Codes(unittest.TestCase):
         self.assertIn("price 27.00 EUR\nadded 3, repeated 0, refused 0", self.said.getvalue())
         self.assertEqual(len(self.site.money), 3)
 
+    def test_a_sale_that_cannot_be_noted_is_paid(self):
+        """The timer notes it, by the balances."""
+        run = logins.Store.run
+
+        def locked(store, *statements, **more):
+            if any("SET sold" in sql for sql, _ in statements):
+                raise logins.Fault("database is locked")
+            return run(store, *statements, **more)
+
+        with mock.patch.object(logins.Store, "run", locked):
+            self.assertEqual(self.sell(), 0)
+        self.assertIn("price 27.00 EUR\nadded 3, repeated 0, refused 0", self.said.getvalue())
+
+    def test_a_code_that_is_refused_is_named(self):
+        self.site.numbers["P-T-000000000001"] = (b"al", 5)
+        self.assertEqual(self.sell(), 1)
+        self.assertIn("added 2, repeated 0, refused 1\nt-000000000001: VoucherDiffers\n",
+                      self.said.getvalue())
+
     def test_a_sale_at_the_page_in_the_same_seconds_is_said(self):
         """No balances have it as the code is credited; those that are written next do."""
         self.site.money["D1-1"] = (self.account(0), 500)

@@ -100,12 +100,12 @@ class Allowing:
         self.notes = Notes(words.notes)
 
     def run(self):
-        for at, row in enumerate(self.rows, 1):
+        for row in self.rows:
             is_known = row.number in self.notes.least
             # Also without --lapse: so a later run with it takes nothing of this month.
             left = max(self.left.get(row.account, 0), 0)
             self.notes.add(row, left)
-            found = self.desk.outcome(sells.Record(at, row.number, row.account, row.sum))
+            found = self.desk.outcome(row.number, row.account, row.sum)
             self.counts[found] += 1
             if self.books and found == "repeat" and self.desk.is_lost:
                 # Was the lost answer the first one? Newer balances say it, so the next run does.

@@ -220,8 +220,8 @@ def asked(account, total, words, is_lost):
     """What the desk said of the sale, and whether a try without an answer may have reached it."""
     try:
         desk = sells.desk_of(words)
-        record = sells.Record(1, number_of(account), account.encode(), total)
-        return desk.outcome(record), is_lost or desk.is_lost
+        found = desk.outcome(number_of(account), account.encode(), total)
+        return found, is_lost or desk.is_lost
     except desks.WrongKey as why:
         say(why)
         return desks.NO_KEY, is_lost

@@ -204,32 +204,32 @@ def credit(words, logins_store, found, known):
     """Sends sales to the desk, each once however often it is given. What was sold at the desk's
     page has another number, and is sold all the same: then nothing is credited.
 
-    If this is killed before a sale is noted, the timer finds it in the balances.
+    If this is killed before a sale is noted, or cannot note it, the timer finds it in the balances.
     """
     desk, outcomes, stop = sells.desk_of(words), {}, None
-    for at, it in enumerate(found, 1):
+    for it in found:
+        name = names.shown(it.account)
         # The book says what was sold: an older one may lack sales that the logins have.
-        if names.shown(it.account) in known:
-            outcomes[at] = "repeat"
+        if name in known:
+            outcomes[name] = "repeat"
         elif stop is None:
             try:
-                record = sells.Record(at, number_of(it.account), it.account, it.credit)
-                outcomes[at] = desk.outcome(record)
-                if outcomes[at] == "repeat" and desk.is_lost:
+                outcomes[name] = desk.outcome(number_of(it.account), it.account, it.credit)
+                if outcomes[name] == "repeat" and desk.is_lost:
                     # The answer that was lost was the first one: the guest is to pay.
-                    outcomes[at] = "new"
+                    outcomes[name] = "new"
             except sells.Stop as why:
                 stop = why
-        if outcomes.get(at) in ("new", "repeat"):
-            lapses.sold(logins_store, it.account, int(time.time()))
-    price = sum(it.price for at, it in enumerate(found, 1) if outcomes.get(at) == "new")
-    before = sum(names.shown(it.account) in known for it in found)
-    if before:
+        if outcomes.get(name) in ("new", "repeat"):
+            with contextlib.suppress(logins.Fault):
+                lapses.sold(logins_store, it.account, int(time.time()))
+    if before := sum(names.shown(it.account) in known for it in found):
         say(f"{before} of these codes were sold before, here or at the desk's page: nothing was "
             "credited for them")
-    program.show(f"price {moneys.of_site().shown(price)}")
+    new = [it for it in found if outcomes.get(names.shown(it.account)) == "new"]
+    program.show(f"price {moneys.of_site().shown(sum(it.price for it in new))}")
     status = sells.report(outcomes, {}, {"": stop} if stop else {})
-    return sold_twice([it for at, it in enumerate(found, 1) if outcomes.get(at) == "new"]) or status
+    return sold_twice(new) or status
 
 
 def sold_twice(found):

@@ -187,13 +187,13 @@ class Desk:
         # Whether a try of the last voucher that had no answer of the desk's may have reached it.
         self.is_lost = False
 
-    def outcome(self, record):
-        """`new`, `repeat`, or the cause for which it was refused."""
-        pause, account, self.is_lost = FIRST_PAUSE, names.for_desk(record.account), False
+    def outcome(self, voucher, account, total):
+        """`new`, `repeat`, or the cause for which a voucher was refused."""
+        pause, self.is_lost = FIRST_PAUSE, False
         while True:
             try:
-                found, status, body = desks.credit(self.where, self.key, account, record.sum,
-                                                   record.voucher)
+                found, status, body = desks.credit(self.where, self.key, names.for_desk(account),
+                                                   total, voucher)
                 self.is_lost |= found in (desks.AWAY, desks.STRANGE)
                 if found != desks.AWAY:
                     self.told_away(None)
@@ -247,7 +247,7 @@ class Sale:
                     return
                 record = waiting.popleft()
             try:
-                outcome = self.desks[book].outcome(record)
+                outcome = self.desks[book].outcome(*record[1:])
             except Exception as why:
                 # As of a host that is misspelled: that nothing is sent is said, whatever it was.
                 stop = why if isinstance(why, Stop) else Stop(type(why).__name__, str(why))
