@@ -126,6 +126,10 @@ class Site(Folder):
         with mock.patch.object(freeradius, "text", lambda *_: "radacctd {\n\tport = 21813\n}\n"):
             for text in ("RADACCTD_RADIUS_PORT=21813\n", '# 1\nRADACCTD_RADIUS_PORT="21813"\n'):
                 self.assertEqual(alone.defaults(text, self.wanted()), text)
+        for port in ("1813", "11813; x", "${x}"):
+            text = f"radacctd {{\n\tport = {port}\n}}\n"
+            with mock.patch.object(freeradius, "text", lambda *_, it=text: it):
+                self.assertEqual(alone.defaults("", self.wanted()), "RADACCTD_RADIUS_PORT=11813\n")
         # And where access servers do, once FreeRADIUS is out.
         one = self.wanted(freeradius=False, server="10.0.0.5")
         self.assertEqual(alone.defaults('RADACCTD_BIND="--bind 10.1.0.5 \\\n --bind 10.1.0.6"\n'

@@ -152,9 +152,10 @@ def with_bind(text, address):
 def defaults(text, answers):
     text, port = text or "", "RADACCTD_RADIUS_PORT"
     if answers.has_front:
-        # That to which FreeRADIUS sends: a site may have changed it.
+        # That to which FreeRADIUS sends: a site may have changed it. FreeRADIUS itself has 1813.
         sent = freeradius.settings()["port"]
-        text = with_value(text, port, sent if sent.isdecimal() else FRONT_PORT)
+        is_free = sent.isdecimal() and sent != "1813"
+        text = with_value(text, port, sent if is_free else FRONT_PORT)
     else:
         text = with_bind(text, answers.server)
         if look.values_of(text).get(port) == FRONT_PORT:

@@ -277,8 +277,8 @@ class Trial(Step):
 class Fresh(Step):
     """Restarts a unit that has not read its files as they are, once a test of these is well.
 
-    The clock, which may be set at any time, is asked only of a start that no set-up has seen. What
-    else is to hold is waited for if there is a word for it that it does not.
+    The clock, which may be set at any time, is asked only of a start that no set-up has seen.
+    `holds` is what else must be so; a unit with a `why` is waited for until it is.
     """
 
     def __init__(self, what, unit, paths, test=(), holds=lambda: True, why=""):
