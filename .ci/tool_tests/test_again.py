@@ -703,6 +703,12 @@ class Pages(Folder):
             self.assertLess(found.index(trial), found.index(trial.steps[0]))
             if is_right:
                 trial.do()
+                # A page of the site's own that would be hidden is told.
+                name = "    server_name b.example;\n"
+                self.sample = 2 * self.sample.replace("server {\n", f"server {{\n{name}")
+                with contextlib.redirect_stdout(io.StringIO()) as said:
+                    trial.do()
+                self.assertRegex(said.getvalue(), "nginx says: .*a.example.org.* ignored")
             else:
                 self.assertRaisesRegex(steps.Failed, "nginx would not start .* none was changed",
                                        trial.do)

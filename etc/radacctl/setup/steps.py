@@ -270,6 +270,9 @@ class Trial(Step):
             if status:
                 raise Failed(f"{self.who} would not start with its new files, so none was changed: "
                              f"{said.strip()[-600:]}")
+            # Of two servers of one name nginx hears one, and says so only here.
+            for line in re.findall("(?m)^.*conflicting server name.*$", said):
+                print(f"{self.who} says: {line}")
         finally:
             shutil.rmtree(TRIAL, ignore_errors=True)
 
