@@ -499,7 +499,8 @@ class Codes(unittest.TestCase):
         """No balances have it as the code is credited; those that are written next do."""
         self.site.money["D1-1"] = (self.account(0), 500)
         twice = {self.account(0): 1000, self.account(1): 500}
-        for after, status in (({self.account(1): 500}, 0), (twice, 1)):
+        none = ValueError("no balances")
+        for after, status in (({self.account(1): 500}, 0), (none, 0), (twice, 1)):
             self.site.money = {"D1-1": (self.account(0), 500)}
             self.site.numbers = {}
             with mock.patch.object(names, "balances", mock.Mock(side_effect=[{}, after])), \
@@ -507,6 +508,7 @@ class Codes(unittest.TestCase):
                 self.assertEqual(self.sell(), status)
             lines = [it for it in said.getvalue().splitlines() if "radacctl debit" in it]
             self.assertEqual(len(lines), status)
+            self.assertEqual("look whether" in said.getvalue(), after is none)
         words = lines[0].partition("radacctl debit ")[2].split()
         self.assertEqual(words, ["t-000000000000", "500", "VOID-P-T-000000000000"])
         self.assertEqual(debit.debit_of(*words)[1], 500)

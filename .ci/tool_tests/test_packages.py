@@ -284,6 +284,13 @@ class Withdraw(unittest.TestCase):
             self.assertIn(f"{sold} of these 3 codes are sold, as t-000000000003.", asked)
             self.assertIn(f"withdrawn: 3 codes; {sold} of them were sold; 1 were over before", said)
 
+    def test_stolen_codes_end_though_no_balances_can_be_read(self):
+        no = mock.Mock(side_effect=OSError(5, "Input/output error"))
+        with mock.patch.object(names, "balances", no):
+            self.assertEqual(self.withdrawn("--yes")[0], [1, 3, 4])
+            with contextlib.redirect_stderr(io.StringIO()):
+                self.assertRaises(SystemExit, command.main, ["withdraw", self.SHEET, "--unsold"])
+
     def test_only_those_that_nobody_bought(self):
         self.balances = "account,balance,overrun\nt-000000000004,500,0\n"
         ended, asked, said = self.withdrawn("--unsold")

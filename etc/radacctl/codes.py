@@ -66,5 +66,5 @@ def known_accounts():
     """The accounts of the book: a number that was sold once is never made again."""
     try:
         return {names.shown(it) for it in names.balances()}
-    except ValueError:
-        return fail(f"{site.BALANCES} cannot be read: is radacctd running?")
+    except (OSError, ValueError) as why:
+        return fail(f"{why}: is radacctd running?")

@@ -236,10 +236,13 @@ def sold_twice(found):
     """Says which of these codes the desk's page sold in the same seconds, whose balances did not have
     it yet: 1 if there is one.
     """
-    if found and not codes.are_written(time.time(), site.BALANCES):
+    left = None if found else {}
+    with contextlib.suppress(OSError, ValueError):
+        if found and codes.are_written(time.time(), site.BALANCES):
+            left = names.balances()
+    if left is None:
         say(f"{site.BALANCES} is not written anew, so look whether the desk's page sold one, too")
         return 0
-    left = names.balances() if found else {}
     twice = [it for it in found if left.get(it.account, 0) > it.credit]
     for it in twice:
         name = names.shown(it.account)
@@ -281,7 +284,7 @@ def sold_of(found, live, is_needed):
     """Which of these codes a guest has bought. A sale of the last minute is only in the balances."""
     try:
         known = {names.shown(it) for it in names.balances()}
-    except ValueError:
+    except (OSError, ValueError):
         known = codes.known_accounts() if is_needed else set()
     return {it for it in live if found[it].sold is not None or names.shown(it) in known}
 
