@@ -706,6 +706,12 @@ class Sheets(unittest.TestCase):
                 self.assertEqual(command.named(found.store, what),
                                  [(b"t-0123456789ab", "live", None, None, 50, 900)])
             self.assertRaises(SystemExit, command.named, found.store, "t-' OR 1=1")
+            # Nobody but root decides whose account is credited.
+            found.login(b"mallory")
+            found.store.run(("UPDATE login SET digest = 'e', sheet = 'week-20261127-acdef' WHERE "
+                             "account = ?", (b"mallory",)))
+            self.assertRaises(SystemExit, command.named, found.store, "week-20261127-acdef")
+            self.assertEqual(len(command.named(found.store, "week-20261127-acdef", False)), 2)
 
 
 class Stores(unittest.TestCase):

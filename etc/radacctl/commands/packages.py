@@ -167,8 +167,12 @@ def named(logins_store, what, is_for_sale=True):
                               f"digest IS NOT NULL AND {condition} ORDER BY account", value)
     known = codes.sold() if is_for_sale else {}
     lost = {it[-1] for it in found} - set(known)
+    others = [it[0] for it in found if not SERIAL.fullmatch(names.shown(it[0]))]
     if is_for_sale and lost:
         fail(f"{codes.LOG} has no {min(lost)}: nobody knows what its codes give")
+    if is_for_sale and others:
+        fail(f"{names.shown(others[0])} is no code, and somebody wrote it among those of {what}: "
+             "nothing was sold")
     return [Code(*it[:4], *known.get(it[4], (0, 0))) for it in found] or fail(
         f"no code is of {what}")
 
