@@ -223,6 +223,16 @@ class Files(unittest.TestCase):
             self.assertRaises(FileExistsError, files.make, os.path.join(folder, "link"), b"two")
             self.assertEqual(sorted(os.listdir(folder)), ["file", "link"])
 
+    def test_a_persons_draft_beside_a_file_stays(self):
+        with tempfile.TemporaryDirectory() as folder:
+            path = os.path.join(folder, "radacctd.toml")
+            files.make(path + ".new", b"a draft")
+            for octets in (b"one", b"two"):
+                files.replace(path, octets)
+                self.assertEqual(files.text(path), octets.decode())
+            self.assertEqual(files.text(path + ".new"), "a draft")
+            self.assertEqual(len(os.listdir(folder)), 2)
+
     def test_a_folder_is_for_its_owner_or_a_group_whatever_the_umask(self):
         with tempfile.TemporaryDirectory() as folder:
             for umask in (0o077, 0o022):

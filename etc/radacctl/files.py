@@ -17,6 +17,9 @@ from radacctl import site
 FOLDER = os.O_RDONLY | os.O_DIRECTORY | os.O_NOFOLLOW | os.O_CLOEXEC
 FLAGS = os.O_RDONLY | os.O_NOFOLLOW | os.O_NONBLOCK | os.O_CLOEXEC
 LARGEST = 1 << 26
+# What follows the name of a file in that of one which is to take its place. A person may have a
+# draft in FILE.new.
+NEW = ".radacctd-new"
 # Prints the rows of a query of a database as JSON, where octets are {"hex": ..}.
 QUERY = """
 import json, sqlite3, sys
@@ -120,7 +123,7 @@ def make_named(path, octets):
 
 def replace(path, octets, mode=0o600, rights=None):
     """Puts a file into place, whole and on the disk; what was there stays until then."""
-    new = path + ".new"
+    new = path + NEW
     remove(new)
     make(new, octets, mode, rights)
     try:

@@ -182,7 +182,7 @@ class Edit:
     def clean_up(self):
         # A signal may have ended it before a file had its name.
         for path in (self.copy, self.base, self.config):
-            files.remove(path + ".new")
+            files.remove(path + files.NEW)
         if not os.path.exists(self.copy):
             files.remove(self.base)
 
