@@ -166,6 +166,14 @@ class Edits(Folder):
             self.assertEqual((found, f"unit = {unit}" in self.read()), (status, True))
             files.remove(f"{self.config}.edit")
 
+    def test_a_log_that_is_rotated_meanwhile_is_read(self):
+        for begun, more, wanted in (("old\n", "old\nnew\nhal", "new\n"), ("old\nolder\n", "new\n",
+                                                                          "new\n")):
+            self.write(self.path, begun)
+            journal = server_log.Journal(self.path)
+            self.write(self.path, more)
+            self.assertEqual(journal.text(), wanted)
+
     def test_the_lines_of_the_server(self):
         for line, wanted in (("config: read again: 2 keys", True), ("x; the old one stays", True),
                              ("config: read", False), ("drop 3", False)):

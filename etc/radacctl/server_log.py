@@ -34,7 +34,8 @@ class Journal:
         text = self.said(*self.since, "-o", "cat", "--no-pager") if not self.log else ""
         if self.log:
             with open(self.log, "rb") as file:
-                file.seek(self.size)
+                # A log that is shorter now was begun anew.
+                file.seek(self.size if os.fstat(file.fileno()).st_size >= self.size else 0)
                 text = file.read().decode("utf-8", "replace")
         return text[: text.rfind("\n") + 1]
 
