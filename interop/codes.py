@@ -211,16 +211,19 @@ def injected(shop, call, when, what, *more):
 
 def stopped_tool(shop):
     """radacctd-vouchers is killed at each step, and finds a full disk: no older code is lost, and
-    a sheet is withdrawn by the next run.
+    a sheet is withdrawn by the next run. A full disk leaves no sheet of codes that are not live.
     """
     make = ("--count", "2", "--sum", "1")
     wrong, kills = [], 0
+    drawn = lambda: set(glob.glob(f"{shop.folder}/vouchers-*"))
     for call, what in (("fsync", "signal=SIGKILL"), ("rename", "signal=SIGKILL"),
                        ("fsync", "error=ENOSPC")):
         for when in range(1, 12):
-            before = {it.code for it in stocks_of(shop)}
+            before, had = {it.code for it in stocks_of(shop)}, drawn()
             status = injected(shop, call, when, what, *make)
             more = {it.code for it in stocks_of(shop)} - before
+            if what == "error=ENOSPC" and len(drawn() - had) != len(more):
+                wrong.append((call, what, when, drawn() - had))
             if before - {it.code for it in stocks_of(shop)} or len(more) not in (0, 2):
                 wrong.append((call, what, when, len(more)))
             kills += status != 0
