@@ -113,7 +113,7 @@ class Pair(unittest.TestCase):
         for name in names:
             path = os.path.join(self.folder, name)
             os.symlink(other, path)
-            os.symlink(other, f"{path}.{os.getpid()}")
+            os.symlink(other, f"{path}.{os.getpid()}.new")
         now = time.time()
         self.turn(state(now, {"al": 5}), state(now, {"al": 5}, apart=0))
         with open(other, encoding="ascii") as file:
