@@ -150,12 +150,6 @@ class Restore(unittest.TestCase):
         self.assertEqual(self.restored("--config", config, "--unsound", "2026-11-27.bad")[0], 1)
 
 
-# What prints the user of a path, and what runs a command as that user: by a program of the test.
-AS_OWNER = """#!/bin/sh
-if [ $1 = --words ]; then echo {0}/as; else id -u; fi
-"""
-
-
 class Backup(Folder):
     """Copies of a book that no process has."""
 
@@ -192,18 +186,32 @@ class Backup(Folder):
         self.assertEqual(self.copied(":")[0], 0)
         self.assertEqual(sorted(os.listdir(f"{self.folder}/copy")), ["book", "book-wal"])
 
+    def installed(self, **tools):
+        """A backup with some tools of the test's."""
+        for name in ("backup", "as-owner", "holders", *tools):
+            path = os.path.join(self.folder, name)
+            if name in tools:
+                with open(path, "w", encoding="ascii") as file:
+                    file.write(f"#!/bin/sh\n{tools[name]}\n")
+                os.chmod(path, 0o755)
+            else:
+                shutil.copy(os.path.join(ROOT, "etc", name), path)
+        return os.path.join(self.folder, "backup")
+
     def test_a_log_that_cannot_be_looked_for_is_not_taken_for_none(self):
         """The copy would be an older book, whose balances are right."""
-        for name in ("backup", "holders"):
-            shutil.copy(os.path.join(ROOT, "etc", name), self.folder)
-        ends = "case $* in 'test -e '*-wal) kill -KILL $$ ;; esac"
-        for name, text in (("as-owner", AS_OWNER.format(self.folder)),
-                           ("as", f'#!/bin/sh\n{ends}\nexec "$@"\n')):
-            with open(os.path.join(self.folder, name), "w", encoding="ascii") as file:
-                file.write(text)
-            os.chmod(file.name, 0o755)
-        status, said = self.copied(":", os.path.join(self.folder, "backup"))
+        owner = f"if [ $1 = --words ]; then echo {self.folder}/killed; else id -u; fi"
+        killed = "case $* in 'test -e '*-wal) kill -KILL $$ ;; esac; exec \"$@\""
+        status, said = self.copied(":", self.installed(**{"as-owner": owner, "killed": killed}))
         self.assertEqual((status, said.splitlines()[-1]), (1, "backup: the copy can't be written"))
+
+    @unittest.skipIf(os.getuid(), "only root gives a folder away")
+    def test_no_folder_of_another_users_is_taken(self):
+        """Made after the path was looked at, as in /tmp: its user could put a link into it."""
+        part = os.path.join(self.folder, "copy.part")
+        status, said = self.copied(":", self.installed(
+            holders=f"[ -e {part} ] || {{ mkdir {part}; chown nobody {part}; }}"))
+        self.assertEqual((status, os.stat(os.path.join(self.folder, "copy")).st_uid), (0, 0), said)
 
     def test_a_command_writes_it_and_ends_meanwhile(self):
         for number, name in enumerate(("book", "book-wal")):
