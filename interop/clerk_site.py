@@ -263,6 +263,8 @@ def operates(site):
           [("bert", "D1-261128-SALESALESALE", "al", "700")])
     check("no code is withdrawn", site.ask("bert", act="codes"), (200, {"codes": []}))
     account = site.rows()[0][0]
+    # One that is on is heard of each 2 seconds here: on a slow machine it would be on no more.
+    site.whole.conf(interval=600)
     site.whole.uses.run(("INSERT INTO use VALUES (?, 'AA', '127.0.2.1', '532d31', ?, 0)",
                          (account, int(time.time()))))
     found = site.ask("bert", act="on")[1]["sessions"]

@@ -121,6 +121,7 @@ def finds(browser, desk):
     shown = browser.shows("Balance 5.00 EUR", "#balance")
     check("with its balance", shown, True)
     sells_to_nobody(browser, desk)
+    shows_unseen(browser, desk)
     desk.accounts = {f"guest-{at:05}": at for at in range(50_000)}
     browser.js("return refresh()")
     begun = time.monotonic()
@@ -146,6 +147,42 @@ def sells_to_nobody(browser, desk):
     check("a desk has no letters of a tool", said, True)
     check("and sells nothing", desk.credits[""], {})
     letters(browser)
+
+
+def shows_unseen(browser, desk):
+    """A name that has what nobody sees does not look like another one, and is asked about as it is."""
+    desk.accounts = {"room 12": 500, "room%E2%80%8B 12": 1, "room%C2%A012": 2, "room%E2%80%AE 12": 3}
+    browser.js("return refresh()")
+    typed(browser, "room 12")
+    check("accounts that look alike are told apart", buttons(browser, "#found"),
+          sorted(desk.accounts)[1:])
+    browser.click("#found button")
+    browser.submit({"sum": "5.00"})
+    asked = browser.shows("Sell 5.00 EUR to room%C2%A012?", "#question")
+    check("the question, too", asked, True)
+    browser.click("#no")
+    found = browser.js("return ['a%E2%80%AEb', 'a%FCb', 'a b', 'a%C3%BCb', '%25'].map(plain)")
+    check("others are shown as they are", found, ["a%E2%80%AEb", "a%FCb", "a b", "a\xfcb", "%"])
+
+
+# What a cashier may type or paste as a sum, and the units of the book by the site's decimals.
+SUMS = {
+    2: {"5,00": 500, " 5.5\t": 550, "1 234,50": 123450, "1\u202f234.50": 123450, "1234": 123400,
+        "0.01": 1, "10000000000": 10**12, **dict.fromkeys((
+            "5 00", "12 34,50", "1.234,50", "1,234.50", "1.234", "5.001", "10000000000.01", "0", "0.00",
+            "-5", "+5", "5.", ".5", "5e1", "0x5", "\u0665", "5 EUR", "1  234", "")))},
+    0: {"5": 5, "1 234": 1234, "5.0": None, "1.234": None, "1,234": None},
+    3: {"5": 5000, "1.234": 1234, "1 234,5": 1234500, "1.2345": None},
+}
+
+
+def sums(browser, desk):
+    """A sum that is typed is that sum, or none."""
+    opened(browser, desk)
+    for decimals, wanted in SUMS.items():
+        found = browser.js("settings.decimals = arguments[0];"
+                           "return arguments[1].map((it) => unitsOf(it))", decimals, list(wanted))
+        check(f"sums of {decimals} decimals", dict(zip(wanted, found)), wanted)
 
 
 def sells_packages(browser, desk):
@@ -235,9 +272,21 @@ def guest(browser, desk):
         browser.click("#again")
         check(f"{len(sessions)} sessions, {len(plans)} plans: {wanted}",
               browser.shows(wanted, "#octets"), True)
+    keeps_nothing(browser, desk)
     desk.classes, desk.sessions = "(", [session(1, "hour", 60)]
     browser.go(f"http://localhost:{desk.port}/#k=guest-key-0000001")
     check("a pattern that is none counts no seconds", browser.shows("MB more", "#octets"), True)
+
+
+def keeps_nothing(browser, desk):
+    """A browser whose stores are full shows an account all the same, in each language."""
+    browser.go(f"http://localhost:{desk.port}/")
+    browser.js("sessionStorage.clear(); Storage.prototype.setItem = () => { throw new Error('full'); };"
+               "document.getElementById('key').value = 'guest-key-0000001';"
+               "document.getElementById('form').requestSubmit()")
+    check("stores that are full: the balance is shown", browser.shows("7.60 EUR left", "#left"), True)
+    browser.js("const it = document.getElementById('language'); it.value = 'de'; it.onchange()")
+    check("and in another language", browser.shows("7,60 EUR übrig", "#left"), True)
 
 
 CARD = {"account": "muller-1128-acde", "password": "aacde-ffhjk", "house": "H", "wifi": "Hotel",
@@ -584,7 +633,7 @@ def forgets(browser, desk):
     browser.js("return new Promise((go) => { indexedDB.deleteDatabase('desk').onsuccess = go; })")
 
 
-PARTS = (finds, sells_packages, long_lists, guest, makes_guests, finds_guests, corrects,
+PARTS = (finds, sums, sells_packages, long_lists, guest, makes_guests, finds_guests, corrects,
          operator, words)
 
 

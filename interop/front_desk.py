@@ -321,6 +321,7 @@ def umlauts(browser, proxy):
     decoded = browser.js("return ['CN=j\\\\C3\\\\B6rg', 'j\\u00f6rg', 'anna'].map(nameOf)")
     check("as a certificate has it, and in Latin letters", decoded, ["CN=jörg", "jörg", "anna"])
     open_desk(browser, proxy)
+    check("and the next cashier's page is ready", browser.shows("Ready."), True)
 
 
 def lost_store(browser, proxy, server, start):

@@ -7,10 +7,15 @@ function spelled(name) {
   return [...new TextEncoder().encode(name)].map(one).join("");
 }
 
-// Octets that are no text become halves of a letter: whyNot knows that nobody logs in by them.
-function plain(account) {
+// The same as it is typed. Octets that are no text become halves of a letter: whyNot knows that nobody
+// logs in by them.
+function decoded(account) {
   try { return decodeURIComponent(account); } catch { return decodeURIComponent(account.replace(/%[89A-F]./g, "\udcff")); }
 }
+
+// The same for people. What nobody sees stays spelled: so no name looks like another one, or turns the
+// text behind it round.
+const plain = (account) => /\p{C}|(?! )\p{Z}/u.test(decoded(account)) ? account : decoded(account);
 
 // Marks that nobody sees, as of the direction of a text: they come along if a name is copied.
 const MARKS = "\\xad\\u200b-\\u200f\\u202a-\\u202e\\u2060-\\u2069";

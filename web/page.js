@@ -30,13 +30,16 @@ function setLanguage(wanted) {
 // A store of the browser's, or null if it keeps nothing.
 const storeOf = (name) => { try { return window[name]; } catch { return null; } };
 
+// Keeps a text in a store of the browser's, if it can: one that is full keeps nothing more.
+const keep = (store, name, value) => { try { storeOf(store)?.setItem(name, value); } catch { /* then not */ } };
+
 // Lists the languages, and takes the one that was chosen before, or that of the browser.
 function offerLanguages(redraw) {
   for (const [code, name] of Object.entries(LANGUAGES)) $("language").add(new Option(name, code));
   setLanguage(storeOf("localStorage")?.getItem("language") || navigator.language.slice(0, 2));
   $("language").onchange = () => {
     setLanguage($("language").value);
-    storeOf("localStorage")?.setItem("language", language);
+    keep("localStorage", "language", language);
     redraw();
   };
 }

@@ -89,7 +89,7 @@ const addSale = (sale) => inStore(async (all, shifts) => {
 // One that is open is in a second place, too: a browser that was killed has lost a store.
 function keepTwice(sale) {
   const name = "sale:" + sale.voucher;
-  try { sale.state === "open" ? localStorage.setItem(name, JSON.stringify(sale)) : localStorage.removeItem(name); } catch { /* then once */ }
+  if (sale.state === "open") keep("localStorage", name, JSON.stringify(sale)); else storeOf("localStorage")?.removeItem(name);
   return sale;
 }
 
