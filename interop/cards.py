@@ -259,6 +259,12 @@ def by_page(browser, codes, unknown):
     check("a wrong letter is seen by the page", said, True)
     fill(browser, "bo", unknown)
     check("a code that is not in the stock", browser.shows("This voucher is not known"), True)
+    browser.js("window.real = fetch;"
+               "window.fetch = async () => new Response('<p>Log in', {status: 200})")
+    fill(browser, "bo", codes[1])
+    said = browser.shows("The accounts are away just now")
+    kept = browser.js("window.fetch = window.real; return document.getElementById('code').value")
+    check("an answer that is none of the script's redeems nothing", (said, kept), (True, codes[1]))
 
 
 def server_away(browser, server, restart, code):

@@ -150,8 +150,9 @@ def sells_to_nobody(browser, desk):
 
 
 def shows_unseen(browser, desk):
-    """A name that has what nobody sees does not look like another one, and is asked about as it is."""
-    desk.accounts = {"room 12": 500, "room%E2%80%8B 12": 1, "room%C2%A012": 2, "room%E2%80%AE 12": 3}
+    """A name that has what nobody sees does not look like another one, and is asked about so."""
+    desk.accounts = dict.fromkeys(("room 12", "room%E2%80%8B 12", "room%C2%A012",
+                                   "room%E2%80%AE 12"), 500)
     browser.js("return refresh()")
     typed(browser, "room 12")
     check("accounts that look alike are told apart", buttons(browser, "#found"),
@@ -169,8 +170,8 @@ def shows_unseen(browser, desk):
 SUMS = {
     2: {"5,00": 500, " 5.5\t": 550, "1 234,50": 123450, "1\u202f234.50": 123450, "1234": 123400,
         "0.01": 1, "10000000000": 10**12, **dict.fromkeys((
-            "5 00", "12 34,50", "1.234,50", "1,234.50", "1.234", "5.001", "10000000000.01", "0", "0.00",
-            "-5", "+5", "5.", ".5", "5e1", "0x5", "\u0665", "5 EUR", "1  234", "")))},
+            "5 00", "12 34,50", "1.234,50", "1,234.50", "1.234", "5.001", "10000000000.01", "0",
+            "0.00", "-5", "+5", "5.", ".5", "5e1", "0x5", "\u0665", "5 EUR", "1  234", "")))},
     0: {"5": 5, "1 234": 1234, "5.0": None, "1.234": None, "1,234": None},
     3: {"5": 5000, "1.234": 1234, "1 234,5": 1234500, "1.2345": None},
 }
@@ -281,10 +282,11 @@ def guest(browser, desk):
 def keeps_nothing(browser, desk):
     """A browser whose stores are full shows an account all the same, in each language."""
     browser.go(f"http://localhost:{desk.port}/")
-    browser.js("sessionStorage.clear(); Storage.prototype.setItem = () => { throw new Error('full'); };"
+    browser.js("sessionStorage.clear();"
+               "Storage.prototype.setItem = () => { throw new Error('full'); };"
                "document.getElementById('key').value = 'guest-key-0000001';"
                "document.getElementById('form').requestSubmit()")
-    check("stores that are full: the balance is shown", browser.shows("7.60 EUR left", "#left"), True)
+    check("stores that are full: a balance is shown", browser.shows("7.60 EUR left", "#left"), True)
     browser.js("const it = document.getElementById('language'); it.value = 'de'; it.onchange()")
     check("and in another language", browser.shows("7,60 EUR übrig", "#left"), True)
 

@@ -285,6 +285,11 @@ def refusals(browser, proxy):
     )
     sell(browser, "bo", "9")
     check("a sale that the book refuses", browser.shows("D1-LIMIT\trefused", "#sales"), True)
+    browser.js("window.fetch = async () => new Response('<p>Log in to the Wi-Fi', {status: 200});"
+               "newNumber = () => 'D1-OTHER'")
+    sell(browser, "bo", "9")
+    said = (browser.shows("The sale is kept"), browser.shows("D1-OTHER", "#pending"))
+    check("an answer that is none of the desk's sells nothing", said, (True, True))
     browser.js(
         'window.fetch = async () => new Response(\'{"error":"no key"}\', {status: 401});'
         "newNumber = () => 'D1-KEPT'"

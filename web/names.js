@@ -1,5 +1,7 @@
 "use strict";
-// Names of accounts, as etc/radacctl/names.py has them for the tools.
+// Names of accounts, as etc/radacctl/names.py has them for the tools; and letters of numbers and codes:
+// none looks like another one.
+const LETTERS = "ACDEFHJKMNPQRTUWXY34679";
 
 // An account as the desk takes it: octets past plain characters are % and two digits.
 function spelled(name) {

@@ -54,6 +54,21 @@ function say(...what) {
   for (const it of ["soft", "good", "bad"]) $("message").classList.toggle(it, it === kindOf(what[0]));
 }
 
+// An element with its attributes, and what is in it.
+function made(tag, attributes, ...within) {
+  const it = document.createElement(tag);
+  for (const [name, value] of Object.entries(attributes)) it.setAttribute(name, value);
+  it.append(...within);
+  return it;
+}
+
+// What an address has behind its #, which leaves the address bar at once.
+function ofAddress(name) {
+  const given = new URLSearchParams(location.hash.slice(1)).get(name);
+  if (location.hash) history.replaceState(null, "", location.pathname);
+  return given;
+}
+
 // The texts that stand in the page, and its title, which has the name of the house.
 function drawTexts() {
   document.documentElement.lang = language;
@@ -66,6 +81,12 @@ const sent = (page, what) => {
   const headers = { "Content-Type": "application/json", Radacctd: page };
   return { method: "POST", cache: "no-store", headers, body: JSON.stringify(what) };
 };
+
+// The status of the clerk's answer and its object; status 0 if there is none.
+async function saidBy(answer) {
+  const body = await answer?.json().catch(() => null);
+  return { status: body ? answer.status : 0, body: body || {} };
+}
 
 // Throws if there is no answer (TypeError), or the file is missing or wrong.
 async function readSettings() {

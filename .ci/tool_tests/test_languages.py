@@ -19,6 +19,8 @@ QUOTED = re.compile(r'"(\w+)"|(?:^|[{,]\s*)(\w+):', re.M)
 # What a plan counts, as plans.json says it.
 COUNTED = {"in", "out"}
 NAMED = re.compile(r'data-text="(\w+)"[^>]*>([^<]*)<')
+# The columns of a list.
+COLUMNS = re.compile(r'data-columns="([^"]+)"')
 
 
 def web():
@@ -38,6 +40,12 @@ def sources(page):
     text = text_of(page, "index.html")
     found = re.findall(r'<script src="([^"]+\.js)">', text)
     return "\n".join([text, *(text_of(page, it) for it in found)])
+
+
+def named_in(source):
+    """The texts that the elements of a page name."""
+    columns = " ".join(COLUMNS.findall(source)).split()
+    return {name for name, _ in NAMED.findall(source)} | set(columns)
 
 
 class Languages(unittest.TestCase):
@@ -73,7 +81,7 @@ class Languages(unittest.TestCase):
     def test_each_text_that_a_page_says_is_there(self):
         for page in PAGES:
             source = sources(page)
-            said = set(SAID.findall(source)) | {name for name, _ in NAMED.findall(source)}
+            said = set(SAID.findall(source)) | named_in(source)
             said |= set(re.findall(r'return "(name\w+)"', source)) if "whyNot(" in text_of(
                 page, "index.html") else set()
             self.assertEqual(said - set(self.english[page]), set(), page)
@@ -82,8 +90,7 @@ class Languages(unittest.TestCase):
         said = collections.Counter()
         for page in PAGES:
             source = sources(page)
-            words = {it for pair in QUOTED.findall(source) for it in pair if it}
-            words |= {name for name, _ in NAMED.findall(source)}
+            words = {it for pair in QUOTED.findall(source) for it in pair if it} | named_in(source)
             self.assertEqual(set(self.found["en"][page]) - words - COUNTED, set(), page)
             said.update(words - set(self.found["en"][page]))
         self.assertEqual([it for it in self.found["en"]["shared"] if said[it] < 2], [])

@@ -45,16 +45,16 @@ def servers_by_address():
 
 def sales(begin, end, path=None):
     """What was sold, by day, desk, cashier and package: how many sales, what they put on accounts,
-    and what was paid. Only the sale itself says what was paid: among sales of one package, which have
-    one price, it shows if that was less.
+    and what was paid. Only the sale says what was paid: among those of one package, which has one
+    price, it shows if that was less.
     """
-    rows, all_of_them = {}, [*at_desks(path or sales_log.FILE), *of_guests()]
-    for day, number, cashier, package, credit, paid in all_of_them:
+    rows, found = {}, [*at_desks(path or sales_log.FILE), *of_guests()]
+    for day, number, cashier, package, credit, paid in found:
         if begin <= day <= end:
             # What stands first is the letters of the desk that gave the number.
             key = day, number.split("-")[0], names.readable(cashier), package
-            count, credits, sums = rows.get(key, (0, 0, 0))
-            rows[key] = count + 1, credits + credit, sums + paid
+            had = rows.setdefault(key, [0, 0, 0])
+            had[0], had[1], had[2] = had[0] + 1, had[1] + credit, had[2] + paid
     columns = "day", "desk", "cashier", "package", "count", "credit", "paid"
     return [dict(zip(columns, (*key, *row))) for key, row in sorted(rows.items(), reverse=True)]
 
