@@ -481,7 +481,8 @@ def operator(browser, desk):
         "sales": [(200, {"sales": [
             {"day": "2026-11-28", "desk": "D1", "cashier": "=anna", "package": "week", "count": 2,
              "credit": 1000, "paid": 1800}], "corrections": [
-            {"moment": 1000, "cashier": "", "number": "D1-1", "account": "al", "sum": "500"}]})],
+            {"moment": 1000, "cashier": "", "number": "D1-1", "account": "al", "sum": "500",
+             "paid": 900}]})],
         "codes": [(200, {"codes": []})], "cut": [(200, {"result": "new"})],
         "doctor": [(200, {"looks": False, "moment": 1000, "lines": [
             {"gravity": "warning", "name": "copy-old", "text": "<b>old</b>", "cure": "copy"}]})],
@@ -493,7 +494,7 @@ def operator(browser, desk):
     sorts(browser)
     exports(browser)
     check("what was taken back", cells(browser, "corrections")[0][1:],
-          ["", "D1-1", "al", "5.00 EUR"])
+          ["", "D1-1", "al", "5.00 EUR", "9.00 EUR"])
     check("no code is withdrawn", cells(browser, "codes"), [["None"]])
     browser.js("window.confirm = () => true;"
                "document.querySelectorAll('#on-head button')[0].click();"
@@ -608,7 +609,7 @@ def words(browser, desk):
         "on": [(200, {"sessions": [on(1, account="d" * 200, heard=moment)]})],
         "sales": [(200, {"sales": [], "corrections": [
             {"moment": moment, "cashier": "anna", "number": "D1-261128-ACDEFHJKMNPQ",
-             "account": "t-0123456789ab", "sum": "500"}]})],
+             "account": "t-0123456789ab", "sum": "500", "paid": None}]})],
         "codes": [(200, {"codes": [{"moment": moment, "account": "t-0123456789ab",
                                     "sheet": "week-20261128-acdef", "count": 24}]})],
         "doctor": [(200, {"looks": False, "moment": moment, "lines": []})]}

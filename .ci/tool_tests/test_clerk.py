@@ -511,8 +511,10 @@ class Corrections(Desk):
     def test_a_guests_sale_ends_the_guest(self):
         account = self.guest()[1]["card"]["account"]
         asked = {"act": "back", "account": account, "sum": 500, "voucher": NUMBERS[0]}
-        self.assertEqual(self.ask("anna", {**asked, "account": "room 12"}),
-                         (409, {"error": "differs"}))
+        # The operator sees the sum that the journal has.
+        for more in ({"account": "room 12"}, {"sum": 499}, {"sum": 90_000}):
+            self.assertEqual(self.ask("anna", {**asked, **more}), (409, {"error": "differs"}))
+        self.assertEqual([it[1] for it in self.journal()], ["guest", "guest"])
         self.assertEqual([self.ask("anna", asked)[1]["result"] for _ in range(2)],
                          ["new", "repeat"])
         self.assertEqual(([row[1] for row in self.rows()], self.keys()), (["ended"], 0))

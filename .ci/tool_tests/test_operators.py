@@ -9,9 +9,9 @@ import unittest
 from unittest import mock
 
 from radacctl import logins
-from radacctl.clerk import lists, work
+from radacctl.clerk import journal, lists, work
 from radacctl.commands import report, sell
-from tool_tests.test_clerk import NOW, RIGHTS, SALE, Desk
+from tool_tests.test_clerk import NOW, NUMBERS, RIGHTS, SALE, Desk
 
 
 class Operators(Desk):
@@ -169,15 +169,29 @@ home_server lobby {
             self.assertEqual([tuple(it.values()) for it in found], wanted)
 
     def test_what_was_taken_back(self):
+        """With what the guest had paid: so much was given back."""
         self.site.numbers[SALE["voucher"]] = self.site.money[SALE["voucher"]] = (b"room 12", 500)
+        sale = {it: SALE[it] for it in ("account", "sum", "voucher")}
+        self.site.write("sales.log", json.dumps({
+            "time": "2026-11-28T12:00:00+00:00", "status": 201, "cashier": "bert",
+            "sale": json.dumps({**sale, "package": "week", "paid": 900})}) + "\n")
         self.ask("anna", SALE)
+        account = self.guest()[1]["card"]["account"]
+        self.ask("anna", {**SALE, "account": account, "voucher": NUMBERS[0]})
+        # Of one that was killed behind its debit the cashier is known, too.
+        with contextlib.closing(journal.Journal()) as notes:
+            notes.note(NOW, "jörg", {**SALE, "voucher": NUMBERS[1]}, "bo", journal.BEGUN)
         self.site.write("debits.csv", "moment,event,number,account,sum\n"
                         f"{NOW},given,{SALE['voucher']},room 12,500\n{NOW},given,VOID-1,al,70\n"
-                        f"{NOW},answered,VOID-1,al,70\n{NOW},given,LAPSE-1,al,5\n{NOW},given,CUT")
+                        f"{NOW},answered,VOID-1,al,70\n{NOW},given,LAPSE-1,al,5\n"
+                        f"{NOW},given,{NUMBERS[1]},bo,500\n{NOW},given,CUT")
         day = lists.day_of(NOW)
         found = self.asked(act="sales", begin=day, end=day)["corrections"]
-        self.assertEqual({(it["cashier"], it["number"], it["account"], it["sum"]) for it in found},
-                         {("anna", SALE["voucher"], "room 12", "500"), ("", "VOID-1", "al", "70")})
+        self.assertEqual({tuple(it.values())[1:] for it in found},
+                         {("anna", SALE["voucher"], "room 12", "500", 900),
+                          ("anna", NUMBERS[0], account, "500", 900),
+                          ("jörg", NUMBERS[1], "bo", "500", None),
+                          ("", "VOID-1", "al", "70", None)})
 
     def test_withdrawn_codes(self):
         logins.log_ended([b"t-0123456789ab"], logins.WITHDRAWN, NOW)

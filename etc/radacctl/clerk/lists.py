@@ -43,13 +43,18 @@ def servers_by_address():
             for name, block in freeradius.access_servers()}
 
 
-def sales(begin, end, path=None):
+def all_sales():
+    """Each sale: day, number, cashier, package, what it put on the account, and what was paid."""
+    return [*at_desks(), *of_guests()]
+
+
+def sales(begin, end):
     """What was sold, by day, desk, cashier and package: how many sales, what they put on accounts,
     and what was paid. Only the sale says what was paid: among those of one package, which has one
     price, it shows if that was less.
     """
-    rows, found = {}, [*at_desks(path or sales_log.FILE), *of_guests()]
-    for day, number, cashier, package, credit, paid in found:
+    rows = {}
+    for day, number, cashier, package, credit, paid in all_sales():
         if begin <= day <= end:
             # What stands first is the letters of the desk that gave the number.
             key = day, number.split("-")[0], names.readable(cashier), package
@@ -59,9 +64,9 @@ def sales(begin, end, path=None):
     return [dict(zip(columns, (*key, *row))) for key, row in sorted(rows.items(), reverse=True)]
 
 
-def at_desks(path):
+def at_desks():
     """Each sale of nginx' log that a book took, once."""
-    found = sales_log.by_number(sales_log.sales_of(path)).values()
+    found = sales_log.by_number(sales_log.sales_of(sales_log.FILE)).values()
     return [(it.day, it.number, it.cashier, it.package, it.sum, it.paid) for it in found
             if it.status in sales_log.TAKEN]
 
@@ -83,14 +88,20 @@ def day_of(moment):
 
 
 def corrections(begin, end):
-    """What was taken back at desks, and by hand, the newest first. What lapsed is neither."""
-    made = {it.number: it for it in journal.lines_in() if it.act == "back"
-            and it.state == journal.DONE}
+    """What was taken back at desks, and by hand, the newest first, with what had been paid. What
+    lapsed is neither.
+    """
+    paid = {number: it for _, number, *_, it in all_sales()}
+    last = {it.number: it for it in journal.lines_in() if it.act == "back"}
+    made = {number: it for number, it in last.items() if it.state == journal.DONE}
+    # What was killed behind its debit has no end in the journal.
+    begun = {number: it.cashier for number, it in last.items() if it.state == journal.BEGUN}
     rows = [(it.moment, it.cashier, it.number, it.account, it.what) for it in made.values()]
     for moment, event, number, account, total in debits():
         if event == books.GIVEN and number not in made and not number.startswith("LAPSE-"):
-            rows.append((int(moment), "", number, account, total))
-    return [dict(zip(("moment", "cashier", "number", "account", "sum"), it))
+            rows.append((int(moment), begun.get(number, ""), number, account, total))
+    return [dict(zip(("moment", "cashier", "number", "account", "sum", "paid"),
+                     (*it, paid.get(it[2]))))
             for it in sorted(rows, reverse=True) if begin <= day_of(it[0]) <= end]
 
 

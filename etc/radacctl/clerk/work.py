@@ -218,6 +218,9 @@ class Act:
         if had is None:
             self.may_begin()
         if made is not None:
+            # The operator sees the sum that the journal has.
+            if terms_of(sold.store(), account)["credit"] != self.asked["sum"]:
+                raise Refused(409, "differs")
             self.note(account, journal.BEGUN)
             self.end_guest(account)
             self.done(account)
@@ -290,11 +293,20 @@ def page_key(own, account):
             program.say(f"a key that begins with {CHECK} is left, until {now:%H:%M}: {why}")
 
 
+def terms_of(store, account):
+    """What a guest bought."""
+    rows = store.read("SELECT terms FROM login JOIN package ON package.id = login.package "
+                      "WHERE account = ?", names.octets_of(account))
+    if not rows:
+        raise Refused(404, "no such guest")
+    return json.loads(rows[0][0])
+
+
 def card_of(store, account):
     """What the page shows and prints of a guest: name, password, and QR codes."""
-    rows = store.read("SELECT password, terms, ends FROM login JOIN package ON package.id = "
-                      "login.package WHERE account = ?", names.octets_of(account))
-    password, terms, own = rows[0][0], json.loads(rows[0][1]), words()
+    [(password,)] = store.read("SELECT password FROM login WHERE account = ?",
+                               names.octets_of(account))
+    terms, own = terms_of(store, account), words()
     tokens = [it["token"] for it in keys.config_in(own.config).get("key", [])
               if keys.is_guests(it) and it["account"] == account]
     token, wifi = next(iter(tokens), None), packages.wifi()
