@@ -145,7 +145,14 @@ def sells_to_nobody(browser, desk):
     browser.submit({"account": "room 12", "sum": "5.00"})
     said = browser.shows("Each desk has its own", "#message")
     check("a desk has no letters of a tool", said, True)
+    letters(browser)
+    browser.submit({"account": "room 12", "sum": "5.00"})
+    browser.js("const d = document.getElementById('desk'); d.value = 'w'; d.oninput()")
+    browser.click("#yes")
+    said = browser.shows("Each desk has its own", "#message")
+    check("nor while a question is open", said, True)
     check("and sells nothing", desk.credits[""], {})
+    browser.click("#no")
     letters(browser)
 
 
@@ -220,10 +227,28 @@ def sells_packages(browser, desk):
     check("of a new account two more Enters sell nothing", len(desk.credits[""]), 1)
     check("the button says that it is new", browser.text("#yes"), "Sell to the new account")
     browser.click("#no")
-    del desk.more["packages.json"]
+    changes_price(browser, desk)
     desk.more["packages.json"] = b'{"packages": "none"}'
     browser.js("return refresh()")
     check("a file that is none leaves no button", buttons(browser, "#packages"), [])
+
+
+def changes_price(browser, desk):
+    """A package that costs another sum while its question is open is not sold for the old one."""
+    typed(browser, "room 12")
+    before = len(desk.credits[""])
+    for change in ({"price": 1000}, {"credit": 600}, {"until": 1}):
+        desk.more["packages.json"] = json.dumps({"packages": shifts.PACKAGES}).encode()
+        browser.js("return refresh()")
+        browser.click("#packages button")
+        asked = browser.shows("Sell the package 5 GB, 7 days for 9.00 EUR", "#question")
+        changed = {**shifts.PACKAGES[0], **change}
+        desk.more["packages.json"] = json.dumps({"packages": [changed]}).encode()
+        browser.js("return refresh()")
+        browser.click("#yes")
+        said = browser.shows("Nothing was sold: this package has another price", "#message")
+        check(f"a package that changes meanwhile: {change}", (asked, said), (True, True))
+    check("is not sold", len(desk.credits[""]), before)
 
 
 def long_lists(browser, desk):
