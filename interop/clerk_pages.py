@@ -101,7 +101,7 @@ def operates(browser, site):
     opened(browser, site, "bert", "/operator/", "Read.")
     rows = [it[1:] for it in cells(browser, "sales")]
     check("sales by desk, cashier and package", sorted(rows), [
-        ["D1", it, "week", "1", "9.00 EUR", "0.50 EUR"] for it in ("anna", "bert")])
+        ["D1", it, "week", "1", "9.00 EUR", "0.50 EUR", "0"] for it in ("anna", "bert")])
     check("what was taken back", [it[1:2] + it[3:] for it in cells(browser, "corrections")],
           [["bert", "room 12", "0.50 EUR", "9.00 EUR"]])
     opened(browser, site, "anna", "/operator/", "no right to this page")

@@ -505,7 +505,7 @@ def operator(browser, desk):
         "on": [(200, {"sessions": [*(on(at) for at in range(30)), on(99, **odd)]})],
         "sales": [(200, {"sales": [
             {"day": "2026-11-28", "desk": "D1", "cashier": "=anna", "package": "week", "count": 2,
-             "credit": 1000, "paid": 1800}], "corrections": [
+             "credit": 1000, "paid": 1800, "unanswered": 1}], "corrections": [
             {"moment": 1000, "cashier": "", "number": "D1-1", "account": "al", "sum": "500",
              "paid": 900}]})],
         "codes": [(200, {"codes": []})], "cut": [(200, {"result": "new"})],
@@ -562,8 +562,8 @@ def exports(browser):
     check("a file has all lines, and no formula",
           (file.count("\r\n"), ",'=HYPERLINK(1)," in file), (32, True))
     check("sums are numbers in it", browser.js("return csvOf('sales')").splitlines()[1],
-          "2026-11-28,D1,'=anna,week,2,18.00,10.00")
-    check("and money on the page", cells(browser, "sales")[0][5:], ["18.00 EUR", "10.00 EUR"])
+          "2026-11-28,D1,'=anna,week,2,18.00,10.00,1")
+    check("and money on the page", cells(browser, "sales")[0][5:], ["18.00 EUR", "10.00 EUR", "1"])
     folder = os.path.dirname(browser.profile)
     browser.debug("Browser.setDownloadBehavior", behavior="allow", downloadPath=folder)
     browser.click("#sales-export")

@@ -109,7 +109,9 @@ home_server lobby {
                          [("cut", "begun"), ("cut", "done"), ("cut", "begun"), ("cut", "refused")])
 
     def test_sales_by_day_desk_and_package(self):
-        """Who writes into a sale that less was paid does not hide it among other packages."""
+        """Who writes into a sale that less was paid does not hide it among other packages, nor is one
+        hidden whose answer was lost: the book may have it.
+        """
         line = lambda day, status, sale, who="anna": json.dumps(
             {"time": f"{day}T12:00:00+00:00", "status": status, "cashier": who, "sale": sale})
         sale = lambda number, total, **more: json.dumps(
@@ -121,14 +123,15 @@ home_server lobby {
                 line("2026-11-28", 201, sale("D2-3", 500, paid=0), "=bert"),
                 line("2026-11-28", 201, sale("D2-4", 5, package="a b"), "=bert"),
                 line("2026-11-28", 201, sale("D2-5", 5, package=["week"]), "=bert"),
+                line("2026-11-28", 503, sale("D2-6", 70), "=bert"),
                 line("2026-11-28", 409, sale("D1-3", 9)), line("2026-10-01", 201, sale("D1-0", 1)),
                 "{", line("2026-11-28", 201, "{"), line("2026-11-28", 201, sale("D1-9", "x"))]
         self.site.write("sales.log", "\n".join(rows) + "\n")
         found = self.asked(act="sales", begin="2026-11-01", end="2026-11-30")["sales"]
         self.assertEqual([tuple(it.values()) for it in found], [
-            ("2026-11-28", "D2", "=bert", "week", 2, 1000, 900),
-            ("2026-11-28", "D2", "=bert", "", 3, 510, 10),
-            ("2026-11-28", "D1", "anna", "", 2, 12, 12)])
+            ("2026-11-28", "D2", "=bert", "week", 2, 1000, 900, 0),
+            ("2026-11-28", "D2", "=bert", "", 3, 510, 10, 1),
+            ("2026-11-28", "D1", "anna", "", 2, 12, 12, 0)])
 
     def test_no_line_of_the_log_hides_the_others(self):
         """A cashier may send anything as a sale, and a part of the log may be damaged."""
@@ -149,9 +152,9 @@ home_server lobby {
                 file.write(octets)
         found = self.asked(act="sales", begin="2026-11-01", end="2026-11-30")["sales"]
         self.assertEqual([tuple(it.values()) for it in found], [
-            ("2026-11-28", "D2", "J%F6rg", "", 1, 5, 5),
-            ("2026-11-28", "D2", "CN=Jörg", "", 1, 5, 0),
-            ("2026-11-28", "D1", "anna", "", 3, 15, 15)])
+            ("2026-11-28", "D2", "J%F6rg", "", 1, 5, 5, 0),
+            ("2026-11-28", "D2", "CN=Jörg", "", 1, 5, 0, 0),
+            ("2026-11-28", "D1", "anna", "", 3, 15, 15, 0)])
         with mock.patch.object(lists.sales_log.program, "say"):
             self.assertEqual(len(report.cashiers_of(self.site.path("sales.log"))), 5)
         os.remove(self.site.path("sales.log.2.gz"))
@@ -162,7 +165,7 @@ home_server lobby {
     def test_a_guests_sale_is_one_once_the_desk_took_it(self):
         day = lists.day_of(NOW)
         for answers, wanted in ((["go", "lost", "away", "away"], []),
-                                ([], [(day, "D1", "anna", "week", 1, 500, 900)])):
+                                ([], [(day, "D1", "anna", "week", 1, 500, 900, 0)])):
             self.site.answers = answers
             self.guest()
             found = self.asked(act="sales", begin=day, end=day)["sales"]

@@ -44,31 +44,32 @@ def servers_by_address():
 
 
 def all_sales():
-    """Each sale: day, number, cashier, package, what it put on the account, and what was paid."""
+    """Each sale: day, number, cashier and package; then 1, what it put on the account, what was paid,
+    and 0. Of one without an answer it is 0 three times, and 1.
+    """
     return [*at_desks(), *of_guests()]
 
 
 def sales(begin, end):
     """What was sold, by day, desk, cashier and package: how many sales, what they put on accounts,
-    and what was paid. Only the sale says what was paid: among those of one package, which has one
-    price, it shows if that was less.
+    and what was paid; and how many have no answer, so that the book may have them. Only the sale says
+    what was paid: among those of one package, which has one price, it shows if that was less.
     """
     rows = {}
-    for day, number, cashier, package, credit, paid in all_sales():
+    for day, number, cashier, package, *sums in all_sales():
         if begin <= day <= end:
             # What stands first is the letters of the desk that gave the number.
             key = day, number.split("-")[0], names.readable(cashier), package
-            had = rows.setdefault(key, [0, 0, 0])
-            had[0], had[1], had[2] = had[0] + 1, had[1] + credit, had[2] + paid
-    columns = "day", "desk", "cashier", "package", "count", "credit", "paid"
+            rows[key] = [sum(it) for it in zip(rows.get(key, [0] * 4), sums)]
+    columns = "day", "desk", "cashier", "package", "count", "credit", "paid", "unanswered"
     return [dict(zip(columns, (*key, *row))) for key, row in sorted(rows.items(), reverse=True)]
 
 
 def at_desks():
-    """Each sale of nginx' log that a book took, once."""
-    found = sales_log.by_number(sales_log.sales_of(sales_log.FILE)).values()
-    return [(it.day, it.number, it.cashier, it.package, it.sum, it.paid) for it in found
-            if it.status in sales_log.TAKEN]
+    """Each sale of nginx' log that a book may have, once."""
+    for it in sales_log.by_number(sales_log.sales_of(sales_log.FILE)).values():
+        sums = (1, it.sum, it.paid, 0) if it.status in sales_log.TAKEN else (0, 0, 0, 1)
+        yield it.day, it.number, it.cashier, it.package, *sums
 
 
 def of_guests():
@@ -80,7 +81,9 @@ def of_guests():
     for line in {it.number: it for it in journal.lines_in() if it.act == "guest"}.values():
         found = packages.get(names.octets_of(line.account))
         if found:
-            yield day_of(line.moment), line.number, sales_log.spelled(line.cashier), *found
+            package, *sums = found
+            cashier = sales_log.spelled(line.cashier)
+            yield day_of(line.moment), line.number, cashier, package, 1, *sums, 0
 
 
 def day_of(moment):
@@ -91,7 +94,7 @@ def corrections(begin, end):
     """What was taken back at desks, and by hand, the newest first, with what had been paid. What
     lapsed is neither.
     """
-    paid = {number: it for _, number, *_, it in all_sales()}
+    paid = {number: it for _, number, *_, it, _ in all_sales()}
     last = {it.number: it for it in journal.lines_in() if it.act == "back"}
     made = {number: it for number, it in last.items() if it.state == journal.DONE}
     # What was killed behind its debit has no end in the journal.
