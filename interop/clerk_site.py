@@ -282,7 +282,9 @@ def odd_sales(site):
     sums = ("5", "1000000000000", "1000000000001", "05", "5.0", "5e0", "-5", "0", '"5"', "true")
     more = ('"sum":7', '"paid":-5', '"paid":"5"', '"x":1e999999', '"x":NaN', '"x":"\\u0000"',
             '"":1', '"x":' + "[" * 1200 + "]" * 1200, '"x":' + "9" * 3000, '"x":"\t"', " " * 3000,
-            "}", "[" * 3000)
+            "}", "[" * 3000, '"x":1\f', '"x":1\v', '"x":1\u00a0', '\ufeff"x":1', '"x":1,', '"x":01',
+            '"x":.5', '"x":+1', '"x":tRue', "'x':1", '"x":"\\x"', '"x":"\\u12"', '"x":"\x7f"',
+            '"x":1//', '"x":1/**/', '"sum ":7', '"SUM":7', '"voucher":"D9-X"', '"account":"bo"')
     texts = [(it, "5", '"x":1') for it in accounts] + [("al", it, '"x":1') for it in sums]
     statuses = set()
     for at, (account, total, rest) in enumerate([*texts, *(("al", "5", it) for it in more)]):
