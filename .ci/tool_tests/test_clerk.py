@@ -128,7 +128,7 @@ class Desk(unittest.TestCase):
         return files.text(self.site.config).count("[[key]]")
 
     def journal(self):
-        return [(it.cashier, it.act, it.state) for it in journal.Journal().lines()]
+        return [(it.cashier, it.act, it.state) for it in journal.lines()]
 
 
 class Guests(Desk):

@@ -26,7 +26,7 @@ class Refused(Exception):
 
 
 def is_text(value):
-    return isinstance(value, str) and value.isprintable() and 1 <= len(value) <= 60
+    return isinstance(value, str) and guest.is_name(value)
 
 
 def is_of(pattern):
@@ -47,7 +47,7 @@ def is_units(value):
 
 MEMBERS = {
     "text": is_text,
-    "name": lambda value: is_text(value) and guest.is_name(value),
+    "name": is_text,
     "package": is_of(packages.NAME),
     "number": is_of(NUMBER),
     "voucher": is_of(NUMBER),

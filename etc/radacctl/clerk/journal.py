@@ -33,21 +33,29 @@ class Line:
             plain(row[it]) for it in (1, 2, 3, 5, 6))
 
 
-def lines_in(path=None):
+def lines():
     """The whole lines of the journal; none if there is no file."""
-    return [Line(row) for row in stock.rows_in(path or FILE, HEADER) if row[0].isdigit()]
+    return [Line(row) for row in stock.rows_in(FILE, HEADER) if row[0].isdigit()]
+
+
+def last_of(act):
+    """The last line of each number of a kind of acts."""
+    return {it.number: it for it in lines() if it.act == act}
+
+
+def begun(act, now):
+    """How many acts of a kind were begun in the last hour, by any moment that the clock had."""
+    found = [it for it in lines() if (it.act, it.state) == (act, BEGUN)]
+    recent = [it for it in found if abs(now - it.moment) < HOUR]
+    return len({it.number or str(at) for at, it in enumerate(recent)})
 
 
 class Journal(stock.Log):
     """The journal, which one process has at a time: the lock of guests is held."""
 
-    def __init__(self, path=None):
-        path = path or FILE
-        files.make_folder(os.path.dirname(path))
-        super().__init__(path, HEADER)
-
-    def lines(self):
-        return lines_in(self.path)
+    def __init__(self):
+        files.make_folder(os.path.dirname(FILE))
+        super().__init__(FILE, HEADER)
 
     def note(self, moment, cashier, asked, account, state):
         """Adds a line of an act; it is on the disk, or it is a fault."""
@@ -57,14 +65,3 @@ class Journal(stock.Log):
         number = asked.get("number") or asked.get("voucher", "")
         fields = (spelled(cashier), asked["act"], number, account, spelled(what), state)
         self.add(stock.lines_of([[moment, *fields]]))
-
-    def last(self, act, number):
-        """The last line of an act of a number, or None."""
-        found = [it for it in self.lines() if (it.act, it.number) == (act, number)]
-        return found[-1] if found else None
-
-    def count(self, act, now):
-        """How many acts of a kind were begun in the last hour, by any moment that the clock had."""
-        begun = [it for it in self.lines() if it.act == act and it.state == BEGUN]
-        recent = [it for it in begun if abs(now - it.moment) < HOUR]
-        return len({it.number or str(at) for at, it in enumerate(recent)})

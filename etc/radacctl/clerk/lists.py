@@ -78,7 +78,7 @@ def of_guests():
         "SELECT account, package.name, json_extract(terms, '$.credit'), "
         "json_extract(terms, '$.price') FROM login JOIN package ON package.id = login.package "
         "WHERE digest IS NULL AND state <> 'making'")}
-    for line in {it.number: it for it in journal.lines_in() if it.act == "guest"}.values():
+    for line in journal.last_of("guest").values():
         found = packages.get(names.octets_of(line.account))
         if found:
             package, *sums = found
@@ -95,7 +95,7 @@ def corrections(begin, end):
     lapsed is neither.
     """
     paid = {number: it for _, number, *_, it, _ in all_sales()}
-    last = {it.number: it for it in journal.lines_in() if it.act == "back"}
+    last = journal.last_of("back")
     made = {number: it for number, it in last.items() if it.state == journal.DONE}
     # What was killed behind its debit has no end in the journal.
     begun = {number: it.cashier for number, it in last.items() if it.state == journal.BEGUN}
@@ -108,9 +108,9 @@ def corrections(begin, end):
             for it in sorted(rows, reverse=True) if begin <= day_of(it[0]) <= end]
 
 
-def debits(path=None):
+def debits():
     """The rows of the journal of debits, which is read without its lock: a line is whole or not."""
-    return [row for row in stock.rows_in(path or books.FILE, books.HEADER) if row[0].isdigit()]
+    return [row for row in stock.rows_in(books.FILE, books.HEADER) if row[0].isdigit()]
 
 
 def codes():

@@ -97,7 +97,7 @@ class Act:
 
     def may_begin(self):
         """Ends if the hour has as many acts of this kind as it may have."""
-        if self.notes.count(self.asked["act"], self.now) >= self.most:
+        if journal.begun(self.asked["act"], self.now) >= self.most:
             raise Refused(429, "too many")
 
     # ---- a guest
@@ -106,7 +106,7 @@ class Act:
         """A guest of a number is made once: the same number again gets the same card."""
         store = sold.store()
         guest.mend_all(store, words())
-        had = self.notes.last("guest", self.asked["number"])
+        had = journal.last_of("guest").get(self.asked["number"])
         if had is not None:
             if (had.cashier, had.what) != (self.who, self.what()):
                 raise Refused(409, "differs")
@@ -207,10 +207,10 @@ class Act:
     def take_back(self):
         """Takes back a sale that the book has, once. Of a guest all that is left lapses."""
         number, account = self.asked["voucher"], self.asked["account"]
-        had = self.notes.last("back", number)
+        had = journal.last_of("back").get(number)
         # One that was refused changed nothing, and says nothing of the next one.
         had = None if had is not None and had.state == journal.REFUSED else had
-        made = self.notes.last("guest", number)
+        made = journal.last_of("guest").get(number)
         if any(it is not None and it.account != account for it in (had, made)):
             raise Refused(409, "differs")
         if had is not None and had.state == journal.DONE:

@@ -68,7 +68,7 @@ def cashiers_of(path):
 def cashiers_of_guests():
     """The cashier of each guest's sale that the journal of the front desk has."""
     try:
-        lines = journal.lines_in()
+        lines = journal.lines()
     except stock.Fault as why:
         program.say(why)
         return {}
