@@ -1,7 +1,7 @@
 "use strict";
 // What each page does in the same way: its texts, its money and its settings.
 
-// LANGUAGES and TEXTS are made of the files in languages: each text has a column for each language.
+// LANGUAGES and TEXTS come before this, made of the files in languages: a text has a column for each.
 const $ = (id) => document.getElementById(id);
 let language = "en", settings = null, said = ["wait"];
 

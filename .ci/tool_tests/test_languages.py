@@ -39,7 +39,7 @@ def sources(page):
     """A page, and the scripts that it names."""
     text = text_of(page, "index.html")
     found = re.findall(r'<script src="([^"]+\.js)">', text)
-    return "\n".join([text, *(text_of(page, it) for it in found)])
+    return "\n".join([text, *(text_of(page, it) for it in ("../page.js", "../names.js", *found))])
 
 
 def named_in(source):
