@@ -338,8 +338,13 @@ def lost_store(browser, proxy, server, start):
     browser.js("store.onclose = null; store.close(); indexedDB.deleteDatabase('desk')")
     browser.go(proxy.url("/desk/"))
     check("a store that is lost: the sale is kept", browser.shows(number, "#pending"), True)
+    told = browser.shows("has lost its list of what it sold before", "#since")
+    check("and the cashier is told that the list is not whole", told, True)
     start()
-    check("and sold", browser.shows(number, "#receipt", 20), True)
+    check("it is sold", browser.shows(number, "#receipt", 20), True)
+    browser.js("window.confirm = () => true; document.getElementById('end').click()")
+    told = browser.shows("sold in this browser", "#since")
+    check("the next shift's list is whole", told, True)
 
 
 def earlier_page(browser, proxy):

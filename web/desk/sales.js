@@ -107,7 +107,8 @@ async function forgetOld() {
   if (old.length) await inStore(async (all) => { for (const it of old) await got(all.delete(it.voucher)); });
 }
 
-// What the other place has, where earlier versions of this page kept all sales.
+// What the other place has, where earlier versions of this page kept all sales. It knows, too, whether
+// there was a store: one that is new all the same has lost what was sold.
 async function takeOver() {
   const names = Object.keys(localStorage).filter((it) => it.startsWith("sale:"));
   const ended = Number(localStorage.getItem("shift")) || 0;
@@ -116,7 +117,8 @@ async function takeOver() {
   const olds = names.map(read).filter((it) => it?.voucher && Array.isArray(it.done));
   await inStore(async (all, shifts) => {
     let shift = await got(shifts.get("now"));
-    if (!shift) await got(shifts.put(shift = { id: "now", number: ended ? 2 : 1, since: ended || Date.now() }));
+    const isLost = localStorage.getItem("store") !== null;
+    if (!shift) await got(shifts.put(shift = { id: "now", number: ended ? 2 : 1, since: ended || Date.now(), isLost }));
     for (const it of olds) {
       const own = it.when >= ended ? shift.number : shift.number - 1;
       const sold = it.state === "done" ? { sold: own } : it.done.length ? { sold: shift.number } : {};
@@ -125,6 +127,7 @@ async function takeOver() {
   });
   kept.sales.forEach(keepTwice);
   localStorage.removeItem("shift");
+  keep("localStorage", "store", "");
 }
 
 async function openStore() {
