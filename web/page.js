@@ -82,7 +82,7 @@ const sent = (page, what) => {
   return { method: "POST", cache: "no-store", headers, body: JSON.stringify(what) };
 };
 
-// The status of the clerk's answer and its object; status 0 if there is none.
+// The status of an answer and its object; status 0 if there is none.
 async function saidBy(answer) {
   const body = await answer?.json().catch(() => null);
   return { status: body ? answer.status : 0, body: body || {} };
