@@ -387,7 +387,7 @@ class Proving(unittest.TestCase):
     """What an earlier run left is taken, or put right, and a run that fails takes back its own."""
 
     def proof(self, *balances):
-        it = proof.Proof(answers.Answers({"plan": [PLAN], "freeradius": False}), None)
+        it = proof.Proof(answers.Answers({"plan": [PLAN], "freeradius": False}))
         left = list(balances)
         it.balance = lambda: left.pop(0) if len(left) > 1 else left[0]
         it.wait_for_balances, it.wait = mock.Mock(), mock.Mock()

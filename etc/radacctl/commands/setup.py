@@ -147,7 +147,7 @@ def do(words, wanted):
     packages = alone.packages(packages_of(wanted))
     config = alone.Config(wanted)
     found = [it for it in [packages, *steps_of(wanted, config)] if not is_done(it)]
-    last = ends(found, wanted, config)
+    last = ends(found, wanted)
     for line in [*web.others(wanted), *front.others(wanted)]:
         print(line)
     if not found and not last:
@@ -176,9 +176,9 @@ def remove(words):
         away.remove()
 
 
-def ends(found, wanted, config):
+def ends(found, wanted):
     """What is done at the end: whatever changes is tried anew, and there is a copy."""
-    tried = proof.Proof(wanted, config)
+    tried = proof.Proof(wanted)
     # The copy of the first night, now: until there is one, a lost disk loses all.
     copy = steps.Command("copy the site", has_copy, "systemctl", "start", "radacctd-nightly.service")
     return [it for it in (tried, copy) if not it.is_done() or it is tried and found]

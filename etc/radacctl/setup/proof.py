@@ -9,7 +9,7 @@ import os
 import secrets
 import time
 
-from radacctl import desk, files, freeradius, site
+from radacctl import files, freeradius, site
 from radacctl.doctor import kind, look
 from radacctl.doctor.pair import OUTBOX
 from radacctl.setup import alone, front, steps
@@ -17,14 +17,18 @@ from radacctl.setup import alone, front, steps
 ACCOUNT = front.TEST_USER
 # How long the balances, which are written each 10 seconds, may lack a change, in seconds.
 PATIENCE = 90
-DONE = alone.PROVED
+DONE, TOOL = alone.PROVED, f"{site.SBIN}/radacctl"
+
+
+def number():
+    return f"SETUP-{secrets.token_hex(8).upper()}"
 
 
 class Proof:
     """The last step. It is done once nothing has changed since it went well."""
 
-    def __init__(self, answers, config):
-        self.answers, self.config = answers, config
+    def __init__(self, answers):
+        self.answers = answers
         plan = next(it for it in answers.plans if it["class"] == answers.usual_class)
         self.block, self.price = plan["block"], max(plan["unit"], 1)
         self.plan = plan
@@ -81,22 +85,14 @@ class Proof:
             "radacctl doctor"))
 
     def sell(self, total):
-        number = f"SETUP-{secrets.token_hex(8).upper()}"
-        end = time.monotonic() + PATIENCE
-        while True:
-            try:
-                # In a pair the outbox gives a sale to both books.
-                where = OUTBOX if self.answers.pair else kind.Book().desk()
-                found, status, _ = desk.credit(where, self.config.keys["cashier"], ACCOUNT, total,
-                                               number)
-            except OSError as fault:
-                found, status = desk.AWAY, str(fault)
-            if found in (desk.NEW, desk.REPEAT):
-                return
-            if found != desk.AWAY and found != desk.NO_KEY or time.monotonic() > end:
-                raise steps.Failed(f"the desk did not take a sale: {found}, {status}")
-            # The server reads a key that was just written within 5 seconds.
-            time.sleep(1)
+        # In a pair the outbox gives a sale to both books.
+        host, port = OUTBOX if self.answers.pair else kind.Book().desk()
+        words = (TOOL, "sell", "--host", host, "--port", str(port), "--give-up", "5")
+        text = f"voucher,account,sum\n{number()},{ACCOUNT},{total}\n"
+        sold = lambda: look.run(*words, text=text)
+        # The server reads a key that was just written within 5 seconds.
+        steps.wait_until(lambda: sold()[0] == 0, PATIENCE, lambda: (
+            f"the desk did not take a sale: {sold()[1].strip()[-400:]}"))
 
     def take_back(self, what):
         """Takes what is on the account, which the balances show within seconds."""
@@ -107,9 +103,7 @@ class Proof:
             self.sell(-left)
             self.wait(0, what)
         elif left:
-            number = f"SETUP-{secrets.token_hex(8).upper()}"
-            tool = os.path.join(site.SBIN, "radacctl")
-            steps.given([tool, "debit", ACCOUNT, str(left), number], seconds=60)
+            steps.given([TOOL, "debit", ACCOUNT, str(left), number()], seconds=60)
             self.wait(0, what)
 
     def client(self, port, act, lines):
