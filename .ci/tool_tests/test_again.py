@@ -786,10 +786,9 @@ class TakenOut(Folder):
             self.assertEqual("systemctl restart freeradius.service" in before, not is_fresh)
 
     def test_the_last_file_is_a_trace_of_it(self):
-        self.assertFalse(away.is_there())
+        self.assertEqual(away.listed(), [])
         for path in (*away.LAST, *away.units()):
             self.put("", path)
-            self.assertTrue(away.is_there(), path)
             self.assertTrue(any(path in it for it in away.listed()))
             os.remove(path)
 

@@ -170,9 +170,10 @@ def do(words, wanted):
 
 def remove(words):
     """Takes FreeRADIUS' part out again."""
-    if not away.is_there():
+    found = away.listed()
+    if not found:
         print("nothing is to be done")
-    elif is_wanted(words, away.listed()):
+    elif is_wanted(words, found):
         away.remove()
 
 

@@ -123,17 +123,12 @@ def units():
     return [f"/etc/systemd/system/{it}" for it in freeradius.UNITS]
 
 
-def is_there():
-    """Whether anything is left, as after a run that was killed."""
-    found = any(not it.is_done() for it in (*servers(), *rest()))
-    return found or any(map(os.path.lexists, [*units(), *LAST]))
-
-
 def listed():
-    """What is to be done, a line each."""
+    """What is to be done, a line each; none if nothing is left, as after a run that was killed."""
     found = [it.text() for it in (*servers(), *rest()) if not it.is_done()]
-    return [*found, "wait until radacctd has all queued reports", "restart FreeRADIUS twice",
-            *(f"stop and remove {it}" for it in [*units(), *LAST] if os.path.lexists(it))]
+    last = [f"stop and remove {it}" for it in [*units(), *LAST] if os.path.lexists(it)]
+    between = ["wait until radacctd has all queued reports", "restart FreeRADIUS twice"]
+    return [*found, *between, *last] if found or last else []
 
 
 def waiting():
