@@ -733,7 +733,7 @@ class Ends(unittest.TestCase):
         ):
             with mock.patch.object(setup.proof.Proof, "is_done", lambda _, it=is_tried: it), \
                     mock.patch.object(setup, "has_copy", lambda it=is_copied: it):
-                found = setup.ends(["a step"] * changes, one, None)
+                found = setup.ends(["a step"] * changes, one)
             self.assertEqual([type(it).__name__ for it in found], names)
 
     @NEEDS_ROOT
