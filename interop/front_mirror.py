@@ -275,7 +275,7 @@ def plans(folder):
         used = report("Interim-Update", "S-2", "al", 2 * MEBIBYTE, plan=f"silver{STAMP}")
         check("a session of it", radius.reports("ap1", used), True)
         waits_for("costs that", lambda: book.balance("al"), 44)
-        left = [it for it in os.listdir(folder) if it.startswith(".plans") or it.endswith(".new")]
+        left = [it for it in os.listdir(folder) if it.startswith(".plans") or it.endswith("-new")]
         check("nothing is left next to the book", left, [])
 
 
@@ -286,7 +286,7 @@ def left_by_kill(folder, book):
     left = os.path.join(folder, ".plans-of-book.left")
     os.mkdir(left)
     os.link(book, os.path.join(left, "book"))
-    front.written(os.path.join(folder, "plans.csv.new"), "class,block\n")
+    front.written(os.path.join(folder, "plans.csv.radacctd-new"), "class,block\n")
 
 
 def login_of(radius, plan):
