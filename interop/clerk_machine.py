@@ -22,6 +22,21 @@ SECRET = ("/etc/radacctd.toml", "/etc/radacctd-cashier.key", "/var/lib/radacctd-
           "/etc/nginx/radacctd/cashier.conf")
 # Who connects where, as a user: the status is 0 if the socket let it.
 CONNECT = "import socket; socket.socket(socket.AF_UNIX).connect('/run/{}.socket')"
+# A request of FastCGI's to a socket, with a variable of whoever connects. It prints the answer.
+PLANTED = "/srv/planted.so"
+ASK = f"""import socket, struct, sys
+def record(kind, data):
+    return struct.pack("!BBHHBB", 1, kind, 1, len(data), 0, 0) + data
+variables = {{"SCRIPT_FILENAME": sys.argv[2], "REQUEST_METHOD": "POST", "CONTENT_LENGTH": "0",
+             "LD_PRELOAD": "{PLANTED}"}}
+pairs = b"".join(bytes([len(it), len(value)]) + (it + value).encode()
+                 for it, value in variables.items())
+caller = socket.socket(socket.AF_UNIX)
+caller.connect(sys.argv[1])
+caller.sendall(record(1, struct.pack("!HB5x", 1, 0)) + record(4, pairs) + record(4, b"")
+               + record(5, b""))
+print(b"".join(iter(lambda: caller.recv(4096), b"")))
+"""
 
 
 class Clerk:
@@ -60,6 +75,7 @@ def systemd(folder):
             clerk = Clerk(box)
             acts(clerk)
             rights(box)
+            plants(box)
             shut_in(box)
             page_of_packages(box, clerk)
             by_page(box, clerk)
@@ -119,6 +135,19 @@ def rights(box):
     waits("no process of an act is left", lambda: box.run("pgrep -f '[c]lerk-work'")[1], "", 30)
     failed = box.must("systemctl list-units --plain --no-legend --state=failed 'radacctd*'")
     check("no unit has failed", failed.strip(), "")
+
+
+def plants(box):
+    """Whoever may connect chooses variables of the scripts, and lets them load no library."""
+    box.write("/srv/ask.py", ASK, 0o644)
+    box.must(f"install -m 755 $(ldconfig -p | awk '/libm.so.6/ {{print $NF; exit}}') {PLANTED}")
+    for name, script in (("clerk", "libexec/radacctd/clerk-page"), ("redeem", "sbin/radacctd-redeem")):
+        words = f"python3 /srv/ask.py /run/radacctd-{name}.socket /usr/local/{script}"
+        said = box.run(f"setpriv --reuid www-data --regid www-data --init-groups {words}")[1]
+        check(f"the script of radacctd-{name} answers", "Status: 4" in said or said, True)
+        said = box.must(f"journalctl --sync; journalctl -o cat -u radacctd-{name}")
+        check("and loads no library of nginx' user",
+              bool(re.search(f"{PLANTED}.*failed to map", said)), True)
 
 
 def shut_in(box):
