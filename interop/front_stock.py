@@ -98,6 +98,8 @@ METHODS = [
     ("TTLS", "autheap=MD5"),
 ]
 SPACED = "room 12"
+# Of which FreeRADIUS takes the octets in hex for a number, too large to be told from another one.
+NUMBER = "1234567890"
 ATTRIBUTE = re.compile(r"Attribute \d+ \((User-Name|Class|Vendor-Specific)\).*\n +Value: (.*)")
 # How EAP ends: 3 is success, 4 failure.
 ENDS = re.compile(r"Attribute 79 \(EAP-Message\).*\n +Value: 0(\d)")
@@ -169,7 +171,7 @@ class Stock:
         # The balances are written once, and must not grow old on a slow machine.
         front.written(path, re.sub(r"(?m)^\toldest = .*$", "\toldest = 86400", text))
         balances, plans = (os.path.join(self.folder, name) for name in ("b.csv", "plans.csv"))
-        rows = f"al,105,0\n{SPACED},55,0\npoor,9,0\n{OUTER},1000000,0\n"
+        rows = f"al,105,0\n{SPACED},55,0\npoor,9,0\n{OUTER},1000000,0\n{NUMBER},105,0\n"
         front.written(balances, "account,balance,overrun\n" + rows)
         plan = f"gold,{MEBIBYTE},10,both\ndefault,{MEBIBYTE},1000,both\n"
         plan += f"free,{MEBIBYTE},0,both\n"
@@ -309,6 +311,7 @@ CERTIFICATES = [
     ("poor", "email:p@example.org", "al", False),
     ("somebody", "email:al", "al", True),
     ("somebody", "DNS:example.org,email:al2", "al", False),
+    ("1234567891", "email:1234567892", NUMBER, False),
     ("somebody", "otherName:1.3.6.1.4.1.311.20.2.3;UTF8:al", "al", True),
 ]
 

@@ -40,6 +40,17 @@ class Expansions(unittest.TestCase):
                     found += alone.findall(file.read())
         self.assertEqual(found, [])
 
+    def test_no_condition_compares_what_two_expansions_give(self):
+        """Two texts of digits are numbers to FreeRADIUS, and all long ones the same number."""
+        both = re.compile(r'"[^"\n]*%\{[^"\n]*" [!=]= "[^"\n]*%\{[^"\n]*"')
+        self.assertTrue(both.search('"%{control:Tmp-String-2}" != "%{hex:&User-Name}"'))
+        found = []
+        for name in ("freeradius/policy", "freeradius/devices", "packages/policy",
+                     "packages/server", "shards/policy", "freeradius/server", "pair/pair-server"):
+            with open(os.path.join(ROOT, "etc", name), encoding="utf-8") as file:
+                found += both.findall(file.read())
+        self.assertEqual(found, [])
+
 
 class Digests(unittest.TestCase):
     """What a session's id has of its user, as FreeRADIUS 3.2.1 has computed it."""
