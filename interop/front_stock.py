@@ -245,6 +245,7 @@ def tunnels(folder):
         radius.says("with a reason", reason)
         front.written(os.path.join(radius.raddb, INNER), kept)
         other_settings(radius)
+        outer_class(radius)
     finally:
         radius.end()
 
@@ -292,6 +293,19 @@ def other_settings(radius):
         got = radius.login(SPACED, *method)
         wanted = ([SPACED], [stamped(SPACED)], [5 * MEBIBYTE])
         check(f"with all of the tunnel's reply, {' '.join(method)}: one Class", got, wanted)
+
+
+def outer_class(radius):
+    """An outer name has a Class of its own, and the inner one has none."""
+    edited(radius.raddb, DEFAULT, "\n\t\tok = return\n", "\n")
+    edited(radius.raddb, "radacctd/settings.conf", 'class = "gold"', 'class = ""')
+    path = os.path.join(radius.raddb, "mods-config/files/authorize")
+    front.written(path, f'{OUTER} Cleartext-Password := "right"\n\nprinter\n\tClass := "free"\n')
+    radius.start()
+    wanted = ([OUTER], [f"default;radacctd;;{OUTER};"], [1000 * MEBIBYTE])
+    for method in METHODS:
+        got = radius.login(OUTER, *method, "printer")
+        check(f"the outer name's Class does not count, {' '.join(method)}", got, wanted)
 
 
 CERTIFIED = """network={{
