@@ -1,5 +1,6 @@
 """The parts of interop/packages with Debian's own configuration, and with a clock that is set."""
 
+import glob
 import os
 import shutil
 import subprocess
@@ -41,6 +42,10 @@ def tunnels(folder):
                 got = tried(radius, method, one, password)
                 check(f"{name}: {one}", got and got[0], [wanted])
             check(f"{name}: a wrong password", tried(radius, method, CODE, "wrong"), None)
+            check(f"{name}: it is one wrong try", tries_at(site), [(1,)])
+            text = untrusted(method, CODE, CODE)
+            check(f"{name}: a device that trusts no certificate", radius.tries(text), None)
+            check(f"{name}: which tried no password", tries_at(site), [(1,)])
             check(f"{name}: another user", tried(radius, method, "al", "right")[0], ["al"])
             got = tried(radius, method, calm, "acdef-hjkmn")
             check(f"{name}: without money, slow", got and (got[0], got[1][0].partition(";")[0]),
@@ -48,9 +53,11 @@ def tunnels(folder):
         check("each login noted its device", bool(site.uses.read(
             "SELECT 1 FROM use WHERE account = ?", guest.encode())), True)
         site.change(account, state="withdrawn")
+        site.forget()
         for method in METHODS:
             got = (tried(radius, method, CODE, CODE), radius.ends)
             check(f"{' '.join(method)}: withdrawn, and EAP says so", got, (None, ["4"]))
+        check("which is no wrong try", tries_at(site), [])
         said = subprocess.run(["grep", "-rlia", CODE, f"{folder}/log", f"{folder}/radacct"],
                               capture_output=True, text=True).stdout
         check("no log has the code", said, "")
@@ -58,9 +65,24 @@ def tunnels(folder):
         radius.end()
 
 
+def untrusted(method, name, password):
+    """The settings of a device that trusts another certificate than the server's."""
+    other = sorted(it for it in glob.glob("/etc/ssl/certs/*.pem") if "snakeoil" not in it)[0]
+    return settings(method, name, password).replace("phase2=", f'ca_cert="{other}"\n\tphase2=')
+
+
+def tries_at(site):
+    """How often each device tried in vain."""
+    return site.uses.read("SELECT count FROM try WHERE station <> ''")
+
+
 def tried(radius, method, name, password):
+    return radius.tries(settings(method, name, password))
+
+
+def settings(method, name, password):
     text = SUPPLICANT.format(eap=method[0], inner=method[1], name=name, outer="anonymous")
-    return radius.tries(text.replace('password="right"', f'password="{password}"'))
+    return text.replace('password="right"', f'password="{password}"')
 
 
 def packaged(site, radius, balances):

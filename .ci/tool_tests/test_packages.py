@@ -812,6 +812,7 @@ class Doctor(unittest.TestCase):
                            ("sites-enabled/default", "radacctd_packages_login"),
                            ("sites-enabled/inner-tunnel", "radacctd_packages\n"),
                            ("sites-enabled/inner-tunnel", "radacctd_packages_right"),
+                           ("sites-enabled/inner-tunnel", "radacctd_packages_refused"),
                            ("radiusd.conf", "radacctd/packages.conf"),
                            ("policy.d/radacctd-packages", "radacctd_packages_login {")):
             with self.subTest(line):
@@ -872,3 +873,8 @@ class Steps(unittest.TestCase):
     def test_a_server_without_its_section_is_said(self):
         for text in ("server default {\n}\n", SERVER.format("x").replace("radacctd_login", "ok")):
             self.assertRaises(steps.Failed, setup_packages.default, text)
+
+    def test_a_tunnel_of_the_site_s_own_counts_wrong_tries(self):
+        once = setup_packages.inner("authorize {\n}\npost-auth {\n\tok\n}\n")
+        self.assertIn("\tPost-Auth-Type REJECT {\n\tradacctd_packages_refused\n\t}\n", once)
+        self.assertEqual(setup_packages.inner(once), once)

@@ -45,6 +45,7 @@ SAMPLE = """\
 """
 # In each server: the section, the line at its beginning, and the word that it has then.
 FIRST = {"authorize": "radacctd_packages", "post-auth": "radacctd_packages_right"}
+REFUSED = ("Post-Auth-Type REJECT", "radacctd_packages_refused")
 
 
 def of(_):
@@ -92,11 +93,13 @@ def behind(text, word, line):
 def inner(text):
     for section, line in FIRST.items():
         text = steps.begun(text, section, line)
-    return text
+    # A server of the site's own may lack the section: there no wrong try would count.
+    if freeradius.place_of_section(text, REFUSED[0]) == (0, 0):
+        text = steps.begun(text, "post-auth", f"{REFUSED[0]} {{\n\t}}")
+    return steps.begun(text, *REFUSED)
 
 
 def default(text):
     text = behind(inner(text), "radacctd_login", "radacctd_packages_login")
-    text = steps.begun(text, "Post-Auth-Type REJECT", "radacctd_packages_refused")
     text = steps.begun(text, "preacct", "radacctd_packages_name")
     return behind(text, "radacctd_accounting", "radacctd_packages_report")
