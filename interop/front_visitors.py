@@ -284,6 +284,9 @@ def reported(site):
     site.start()
     check("a realm that is none of the site's", site.reports(name, "X-2"), left)
     check("one of the site", site.reports("a@Campus.example", "X-3"), queued("a@Campus.example"))
+    for number, realm in enumerate(("x(", ".*", "campus.exampl.", "staff.example campus.example")):
+        got = site.reports(f"a@{realm}", f"Z-{number}")
+        check(f"one that only looks like one of the site: {realm}", got, left)
     check("a name without one", site.reports("al", "X-4"), queued("al"))
 
 
