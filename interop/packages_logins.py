@@ -103,9 +103,22 @@ def states(site, account):
     check("a phone wrote a capital letter", (found[0], found[1].get("User-Name")), (True, named))
     site.radius.reports("ap1", report("Start", "S-C", "Anna-1127-acde", [station(3)], plan="up"))
     check("its reports are its account's", f'User-Name = "{named}"' in queued(site), True)
+    site.add("hour", account="0xab-1127-acde", password="acdef-hjkmn", sold=now)
+    lines = report("Start", "S-E", "0XAB-1127-acde", [station(4)], plan="up")
+    check("also if the name looks like hex",
+          (site.radius.reports("ap1", lines), 'User-Name = "0xab-1127-acde"' in queued(site)),
+          (True, True))
+    lines = report("Stop", "S-F", "AnnaB", [station(4), "Attr-52 = 0x00"], plan="up")
+    check("one that cannot be charged is filed", (site.radius.reports("ap1", lines), any(
+        "Attr-52 = 0x00" in filed(it) for it in front.files_in(site.radius.unsent))), (True, True))
     lines = report("Start", "S-D", "AnnaB", [station(4)], plan="up")
     check("another name stays as it is",
           (site.radius.reports("ap1", lines), 'User-Name = "AnnaB"' in queued(site)), (True, True))
+
+
+def filed(path):
+    with open(path, encoding="latin-1") as file:
+        return file.read()
 
 
 def restart(site):
@@ -159,7 +172,7 @@ def nobody_sees(site, account):
                            capture_output=True, text=True).stdout
     found = {it.strip() for it in found.splitlines()}
     check("queue and detail have the account", [f'User-Name = "{account}"' in found, len(found)],
-          [True, 3])
+          [True, 4])
     check("no file has a code", site.files_with([CODE, CODE.replace("-", "")]), [])
     done = site.radius.reports("ap1", report("Start", "S-9", OTHER.replace("W", "X"), [station(1)]))
     check("a name that only looks like a code stays itself",
