@@ -62,7 +62,8 @@ class Digests(unittest.TestCase):
              b"a\\101": "712cbef4120e9a5b3372705fd950719d",
              b"CORP\\18923": "1eece7e8e764fef38108f28e1d232648",
              b"CORP\\000123": "e68074376d624cb2a2a34ff82bf48c54",
-             b"CORP\\900": "563306748ed5a84e62539dedd472806b"}
+             b"CORP\\900": "563306748ed5a84e62539dedd472806b",
+             b"al\\": "", b"al\\\\": "5216d45dbb2341bc733546a51b46e8ea", b"al\\\0x": ""}
 
     def test_who_moves_keeps_the_ids_of_open_sessions(self):
         """Else a session that is open then would be charged twice."""
