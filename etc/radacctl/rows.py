@@ -2,11 +2,13 @@
 
 import contextlib
 import ctypes
+import fcntl
 import hashlib
 import itertools
 import os
 import signal
 import sqlite3
+import struct
 
 from radacctl.program import Failed, say
 
@@ -19,12 +21,23 @@ NEW, OLD = "main", "old"
 LEAST_LOG = 32 + 24 + 512
 # The octet of a database's header that says how many octets at the end of each page are a sum's.
 SUM_AT, SUM_OCTETS = 20, 8
+# The lock that a program has of the file of a book that it has open, where SQLite has it. It
+# belongs to the open file: struct flock of l_type, l_whence, l_start, l_len and l_pid.
+LOCK = struct.pack("hhqqi4x", fcntl.F_WRLCK, os.SEEK_SET, 1 << 30, 512, 0)
 # Asks for a signal once the parent ends (prctl).
 PARENT_DEATH_SIGNAL = 1
 
 
 class Refused(Failed):
     """Why the book stays as it is."""
+
+
+def lock(file):
+    """Lets no program open a book until this file of it is closed."""
+    try:
+        fcntl.fcntl(file, fcntl.F_OFD_SETLK, LOCK)
+    except (BlockingIOError, PermissionError):
+        raise Refused(f"a process has opened {file.name} meanwhile") from None
 
 
 def digest_of(path):

@@ -182,9 +182,8 @@ class Rewrite:
 
     def place(self):
         """Puts the new file in the place of the old one, which no program can open meanwhile."""
-        with open(self.book, "rb") as old:
-            if not files.is_locked(old):
-                raise rows.Refused(f"a process has opened {self.book} meanwhile")
+        with open(self.book, "rb+") as old:
+            rows.lock(old)
             self.refuse_if_changed(old)
             # Its log goes first, so that none can be read with the new file. It has nothing.
             remove(self.book + "-wal")
