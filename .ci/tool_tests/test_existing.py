@@ -134,7 +134,8 @@ class Existing(Folder):
         """Nor begins one, and a name may be in marks, as FreeRADIUS reads both."""
         wanted = self.wanted({"name": "wlc", "address": "10.0.0.1"},
                              {"name": "b", "address": "10.1.2.3"})
-        for name, secret in (("wlc1", "a}b"), ("wlc1", "a{b"), ('"wlc 1"', "}"), ("'wlc 1'", "{x")):
+        for name, secret in (("wlc1", "a}b"), ("wlc1", "a{b"), ('"wlc 1"', "}"), ("'wlc 1'", "{x"),
+                             ("o'wlc", "}{")):
             text = CLIENTS.replace('"of wlc1"', secret).replace("wlc1", name)
             self.put("clients.conf", text.replace("of-the-halls-of-residence", f"halls{secret}"))
             self.assertEqual(front.secret_of("wlc", "10.0.0.1"), secret)
@@ -205,6 +206,9 @@ class Existing(Folder):
         for name in ("halls~", ".halls"):
             self.put(f"clients.d/{name}", "client old {\n\tipaddr = 10.1.2.3\n\tsecret = old\n}\n")
         self.assertEqual(freeradius.included(), ["clients.d/halls", "clients.d/more/labs"])
+        # A file of such a folder that is named itself is read, too.
+        self.put("radiusd.conf", f"{lines}$INCLUDE sites-enabled/eduroam\nmodules {{\n}}\n")
+        self.assertIn("sites-enabled/eduroam", freeradius.included())
         wanted = self.wanted(*({"name": f"b{it}", "address": it} for it in
                                ("10.1.2.3", "10.3.0.1", "10.0.0.1")))
         found = dict(freeradius.blocks("client", front.clients(None, wanted)))

@@ -43,8 +43,8 @@ BRACES = re.compile(f"{COMMENT}|{QUOTED}|{BARE}|[{{}}]")
 SERVER = re.compile(r"(?m)^\s*server\s+([\w.-]+)\s*\{")
 # A line that includes a file, or all files of a folder; $-INCLUDE also one that is not there.
 INCLUDE = re.compile(rf"""(?im)^([ \t]*\$-?INCLUDE[ \t]+)["']?([^\s"']+)["']?{REST}$""")
-# The folders that have no clients.
-NO_CLIENTS = ("mods-enabled", "policy.d", "sites-enabled", "radacctd")
+# The folders that FreeRADIUS includes for other things than clients.
+NO_CLIENTS = ("mods-enabled", "policy.d", "sites-enabled")
 
 
 def path(*names):
@@ -227,9 +227,10 @@ def files_at(place, name):
     """The files of FreeRADIUS' folder that an include of another one names, as paths in it."""
     place = re.sub(r"^\$\{(?:confdir|raddbdir)\}/", f"{site.RADDB}/", place)
     inner = os.path.relpath(path(os.path.dirname(name), place), site.RADDB)
-    if "$" in inner or inner.split("/")[0] in ("..", *NO_CLIENTS):
-        return []
     is_folder = place.endswith("/")
+    is_own = "$" not in inner and inner.split("/")[0] not in ("..", "radacctd")
+    if not is_own or is_folder and inner in NO_CLIENTS:
+        return []
     found = [os.path.join(inner, it) for it in names_in(inner)] if is_folder else [inner]
     return [it for it in found if os.path.isfile(path(it))]
 
@@ -295,9 +296,10 @@ def end_of_block(text_of_file, begin):
 
 def blocks(word, text_of_file):
     """The blocks `client NAME { .. }`, say, of a text without comments: name and text of each."""
-    name = rf"""["']?((?<=")[^"\n]+|(?<=')[^'\n]+|[^\s{{"']+)["']?"""
+    name = r"""(?:"([^"\n]+)"|'([^'\n]+)'|([^\s{"'][^\s{]*))"""
     found = re.finditer(rf"(?m)^[ \t]*{word}(?:[ \t]+{name})?\s*\{{", text_of_file)
-    return [(it[1], text_of_file[it.end() : end_of_block(text_of_file, it.end())]) for it in found]
+    return [(it[1] or it[2] or it[3],
+             text_of_file[it.end() : end_of_block(text_of_file, it.end())]) for it in found]
 
 
 def access_servers():
