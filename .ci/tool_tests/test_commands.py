@@ -143,8 +143,7 @@ class Vouchers(unittest.TestCase):
         with tempfile.TemporaryDirectory() as folder, contextlib.redirect_stderr(io.StringIO()), \
                 contextlib.redirect_stdout(io.StringIO()) as said:
             path = os.path.join(folder, "key")
-            with open(os.open(path, os.O_WRONLY | os.O_CREAT, 0o600), "w", encoding="ascii") as file:
-                file.write("cash-key-00000001")
+            files.make(path, b"cash-key-00000001")
             text = io.TextIOWrapper(io.BytesIO(b"voucher,account,sum\nV-1,al,5\n"))
             with mock.patch.object(sell.sys, "stdin", text):
                 self.assertEqual(sell.main(["--key-file", path, "--host", "127.0.0..1"]), 1)
@@ -211,7 +210,8 @@ class Logged(unittest.TestCase):
 
     def test_no_export(self):
         header = "voucher,account,sum,when\n"
-        for text, why in (("", "is no export of topups"), ("voucher,account,sum\nD-2,al,5\n", "no exp"),
+        none = "is no export of topups"
+        for text, why in (("", none), ("voucher,account,sum\nD-2,al,5\n", none),
                           (header + "D-2,al", "is cut"), (header + "D-2,al,5,1,6\n", "is cut")):
             self.write(self.but, text)
             with contextlib.redirect_stderr(io.StringIO()) as said:
@@ -307,8 +307,9 @@ class Sheets(Folder):
         super().setUp()
         with open(os.path.join(self.folder, "settings.json"), "w", encoding="utf-8") as file:
             json.dump({"url": "https://a.example", "name": "H"}, file)
-        self.words = voucher.parsed(["--count", "2", "--sum", "5", "--to", self.folder, "--settings",
-                                     file.name, "--stock", os.path.join(self.folder, "stock.csv")])
+        stock_file = os.path.join(self.folder, "stock.csv")
+        self.words = voucher.parsed(["--count", "2", "--sum", "5", "--to", self.folder,
+                                     "--settings", file.name, "--stock", stock_file])
         drawn = mock.patch.object(voucher.sheets, "money", lambda *_: b"%PDF")
         drawn.start()
         self.addCleanup(drawn.stop)
@@ -450,7 +451,8 @@ class Program(unittest.TestCase):
             self.assertEqual((done.returncode, done.stderr), (0, b"done\n"))
             done = subprocess.run(words, stdout=full, stderr=full, cwd=ROOT)
             self.assertEqual(done.returncode, 0)
-        done = subprocess.run(["sh", "-c", '"$@" >&-', "sh", *words], stderr=subprocess.PIPE, cwd=ROOT)
+        closed = ["sh", "-c", '"$@" >&-', "sh", *words]
+        done = subprocess.run(closed, stderr=subprocess.PIPE, cwd=ROOT)
         self.assertEqual((done.returncode, done.stderr), (0, b"done\n"))
         # A terminal whose letters are not those of a guest's name: the password would be lost.
         words[-1] = text + "sys.stdout.reconfigure(encoding='latin-1'); program.show('\u0141 pass')"

@@ -107,7 +107,7 @@ def make(path, octets, mode=0o600, rights=None):
 
 
 def make_named(path, octets):
-    """Makes a file that a person named, on the disk by its name, too; or none, and OSError says why."""
+    """Makes a file that a person named, on the disk by its name, too; or none. OSError says why."""
     try:
         make(path, octets)
         try:

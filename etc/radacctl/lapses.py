@@ -77,8 +77,8 @@ def note_sales(store, now, path=MIRROR):
 
 
 def sold(store, account, now):
-    """Notes the moment of a sale, which stays the first one. A clock that is not set yet notes none:
-    once it is, the timer does, and the validity begins.
+    """Notes the moment of a sale, which stays the first one. By a clock that is not set yet none is
+    noted: once it is, the timer does, and the validity begins.
     """
     if now < machine.YEAR_2026:
         return

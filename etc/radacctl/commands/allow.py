@@ -109,8 +109,8 @@ class Allowing:
             self.counts[found] += 1
             if self.books and found == "repeat" and self.desk.is_lost:
                 # Was the lost answer the first one? Newer balances say it, so the next run does.
-                self.faults.append(f"`{names.shown(row.account)}`: an answer of the desk was lost, so "
-                                   "what was left stays until the same is given again")
+                self.faults.append(f"`{names.shown(row.account)}`: an answer was lost, so what was "
+                                   "left stays until the same is given again")
                 continue
             if found == "repeat":
                 # What is left now has this month in it. Somebody who noted nothing credited it; or a

@@ -237,8 +237,8 @@ def credit(words, logins_store, found, known):
 
 
 def sold_twice(found):
-    """Says which of these codes the desk's page sold in the same seconds, whose balances did not have
-    it yet: 1 if there is one.
+    """Says which of these codes the desk's page sold in the same seconds, which no balances had yet: 1
+    if there is one.
     """
     left = None if found else {}
     with contextlib.suppress(OSError, ValueError):
@@ -309,8 +309,8 @@ def show(words):
                  f"{it.devices} device{'s' * (it.devices != 1)}"
                  f"{', then slow' * (it.slow is not None)}") if it else "no longer in the file"
         # FreeRADIUS' user writes the database, which may have other names than the file.
-        print(f"{program.plain(name)}: {terms}; made {made}, live {live}, sold {sold}, used {used}, "
-              f"over {over}")
+        print(f"{program.plain(name)}: {terms}; "
+              f"made {made}, live {live}, sold {sold}, used {used}, over {over}")
     return 0
 
 
