@@ -1,7 +1,8 @@
 """Debits: money that is taken from an account once, as a report of a plan of its own.
 
 A debit is in the journal before it is sent. Its number is the session's id: so the same one again
-takes nothing more.
+takes nothing more. The packet is made here: radclient is FreeRADIUS', which a site need not have,
+and takes no name of any octets.
 """
 
 import contextlib

@@ -1,4 +1,8 @@
-"""The keys in the text of a configuration: each [[key]], with the mark of the tool that made it."""
+"""The keys in the text of a configuration: each [[key]], with the mark of the tool that made it.
+
+It is changed as a text, and no library writes it: whatever else the file has stays, octet for octet,
+and keys of a file that is wrong can be ended.
+"""
 
 import collections
 import datetime

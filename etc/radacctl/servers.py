@@ -62,7 +62,9 @@ def desks_of(path):
 
 
 def is_known(desk, token):
-    """Whether a desk knows a key; None if it doesn't say so in 3 seconds."""
+    """Whether a desk knows a key; None if it doesn't say so in 3 seconds, which http.client knows for
+    each read only.
+    """
     end, said = time.monotonic() + 3, b""
     asks = f"GET /me/balance HTTP/1.1\r\nHost: {desk[0]}\r\nDesk-Key: {token}\r\n\r\n"
     try:
