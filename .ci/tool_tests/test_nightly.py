@@ -4,7 +4,6 @@ import contextlib
 import datetime
 import io
 import os
-import pathlib
 import shutil
 import sqlite3
 import subprocess
@@ -212,26 +211,6 @@ class Databases(Folder):
             os.close(held)
             other.join()
         self.assertEqual(sorted(os.listdir(self.out)), ["lock", "made"])
-
-    def test_a_book_beside_it_whose_log_was_lost(self):
-        """As by a copy of the copy to a full disk: the book without its log is an older one."""
-        said, place = io.StringIO(), lambda name: os.path.join(self.out, name)
-        write = lambda name, text: pathlib.Path(place(name)).write_text(text, "ascii")
-        write("book", "a book")
-        write("book-wal", "its log")
-        fakes = {"LOCK": place("lock"), "places": list, "dump_sql": lambda: None}
-        with mock.patch.multiple(site, **fakes), contextlib.redirect_stdout(said), \
-                contextlib.redirect_stderr(said):
-            test = lambda: site.main(["test", place("made")])
-            self.assertEqual((site.main(["save", place("made")]), test()), (0, 0))
-            write("book-wal", "its l")
-            self.assertEqual(test(), 1)
-            os.remove(place("book-wal"))
-            self.assertEqual(test(), 1)
-            self.assertIn("book-wal, is not as it was copied", said.getvalue())
-            # A program that read it has put the log into it.
-            write("book", "a book with its log")
-            self.assertEqual(test(), 0)
 
     def test_one_that_is_damaged_stops_no_copy(self):
         """By its own name it would be put back in the place of a good one."""

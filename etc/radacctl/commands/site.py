@@ -12,8 +12,7 @@ of debits, the outbox of a pair, the settings of the pages, the folders of FreeR
 the certificates that they name, units and defaults of radacctd, reports that FreeRADIUS has filed,
 and the log of sales. RADACCTD_ALSO names further files and folders. radacctd-nightly gives it.
 
-`test` reads an archive and compares each file with its digest, and so the log of the book that is
-copied next to it: without its log a book is an older one. `packages` prints the packages that
+`test` reads an archive and compares each file with its digest. `packages` prints the packages that
 such a site had, and `units` the units that were enabled. `restore` puts each file back with its
 owner, group and mode. What was at a place and differs moves to PLACE.replaced-DATE-TIME. Stop
 FreeRADIUS and nginx first.
@@ -194,7 +193,7 @@ def save(words):
     summary = {"format": archive.FORMAT, "taken": int(time.time()), "places": found}
     readers = [it.gr_mem for it in grp.getgrall() if it.gr_name == site.READERS]
     summary |= {"packages": packages(), "units": enabled(), "members": sum(readers, [])}
-    made.end({**summary, "empty": made.add_empty(EMPTY), "beside": beside(words.file)})
+    made.end({**summary, "empty": made.add_empty(EMPTY)})
     tested = archive.test_archive(part)
     if tested["digests"] != made.digests:
         raise archive.Wrong(f"{part} is not what was written: its disk fails")
@@ -206,24 +205,8 @@ def save(words):
     print(f"{words.file}: {len(made.digests)} files of {len(found)} places")
 
 
-def beside(path):
-    """The digests of a book and its log that are copied next to an archive."""
-    found = {}
-    with opened(os.path.dirname(os.path.realpath(path))) as folder:
-        for name in ("book", "book-wal"):
-            with contextlib.suppress(FileNotFoundError), regular(folder, name) as (file, _):
-                found[name] = archive.digest_of(file)
-    return found
-
-
 def test(words):
     summary = archive.test_archive(words.file)
-    now = beside(words.file)
-    before = summary.get("beside", now)
-    # A program that reads the copy may put the log into the book, which is another file then.
-    if now != before and now.get("book") == before.get("book"):
-        raise archive.Wrong("the log of the book beside it, book-wal, is not as it was copied: "
-                            "bring the copy again")
     when = time.strftime("%Y-%m-%d %H:%M:%S", time.localtime(summary["taken"]))
     print(f"{words.file}: {len(summary['digests'])} files, all as they were on {when}")
 
