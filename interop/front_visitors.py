@@ -287,6 +287,11 @@ def reported(site):
     for number, realm in enumerate(("x(", ".*", "campus.exampl.", "staff.example campus.example")):
         got = site.reports(f"a@{realm}", f"Z-{number}")
         check(f"one that only looks like one of the site: {realm}", got, left)
+    many = " ".join(f"{number:03d}.campus.example" for number in range(100))
+    site.set("realms", f'"{many} Campus.example"')
+    site.start()
+    name = f"{'a' * 200}@campus.example"
+    check("the last of many, behind a long name", site.reports(name, "L-1"), queued(name))
     check("a name without one", site.reports("al", "X-4"), queued("al"))
 
 
