@@ -180,9 +180,11 @@ def text_of(name):
 
 
 class Site:
-    """The folder of a site: databases, packages, balances, FreeRADIUS."""
+    """The folder of a site: databases, packages, balances, FreeRADIUS. The balances are written once,
+    and must not grow old on a slow machine: in so many seconds.
+    """
 
-    def __init__(self, folder, book=None, radius=True):
+    def __init__(self, folder, book=None, radius=True, oldest=86_400):
         self.folder = folder
         for name in ("logins", "uses"):
             os.makedirs(os.path.join(folder, name))
@@ -193,7 +195,7 @@ class Site:
         self.packages = packages.packages_of(FILE, Money(2, "EUR"))
         self.balances = os.path.join(folder, "balances.csv")
         self.book = book or types.SimpleNamespace(radius=1, balances=self.balances)
-        self.radius = Radius(folder, self.book) if radius else None
+        self.radius = Radius(folder, self.book, [("oldest", oldest)]) if radius else None
         self.numbers = {}
         self.has({})
 

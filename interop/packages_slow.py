@@ -130,7 +130,7 @@ class Slowed:
         time.sleep(1.2)
         self.nas[source].asked()
         self.reports(source, **more)
-        waits = 12 if what else 3
+        waits = 60 if what else 3
         end = time.monotonic() + waits
         while len(self.nas[source].found) < max(len(what), 1) and time.monotonic() < end:
             time.sleep(0.1)
