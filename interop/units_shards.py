@@ -234,6 +234,9 @@ def copied(site):
     copies = f"/run/radacctd-balances-from-127.0.0.1/sf.csv {folder}/sf.csv"
     box.must(f"touch -d '+1 hour' {copies}; echo later,1,0 >> {OTHER}/sf.csv")
     check("one that a clock left which was ahead is replaced", until(there, 30), True)
+    # rsync would read a colon as the end of a machine's name, and copy nothing any more.
+    box.must(f": > {OTHER}/s0:9.csv; echo last,1,0 >> {OTHER}/sf.csv")
+    check("a strange name over there stops no copy", until(there, 30), True)
     status = box.run("ssh -o BatchMode=yes radacctd-copy@127.0.0.1 cat /etc/passwd")[0]
     check("nothing else can be asked for", status != 0, True)
 

@@ -5,6 +5,8 @@ import contextlib
 import io
 import os
 import re
+import shutil
+import subprocess
 import tempfile
 import time
 import unittest
@@ -13,7 +15,7 @@ from unittest import mock
 from radacctl import desk, files, freeradius, shards as books, site
 from radacctl.commands import shards
 from radacctl.doctor import book, copies, front, kind
-from tool_tests import ROOT
+from tool_tests import Folder, ROOT
 
 HOUR = 3600
 COUNTS = "# HELP radacctd_up Up.\n# TYPE radacctd_up gauge\nradacctd_up 1\n"
@@ -176,6 +178,20 @@ class Joined(unittest.TestCase):
         with open(self.path("other"), encoding="ascii") as file:
             self.assertEqual(file.read(), "another's")
         self.assertFalse(os.path.islink(self.path("balances.csv")))
+
+
+class Copies(Folder):
+    @unittest.skipUnless(shutil.which("rsync"), "rsync is missing")
+    def test_a_strange_name_of_another_machine_stops_no_copy(self):
+        """rsync takes a colon for the end of a machine's name, and then copies nothing."""
+        with open(os.path.join(ROOT, "etc/shards/radacctd-balances-from@.service")) as file:
+            command = re.search(r"\$\$as (rsync -tu \S+ \$\$to/);", file.read())[1]
+        os.mkdir(f"{self.folder}/to")
+        for name in ("s0:9.csv", "sf.csv"):
+            with open(f"{self.folder}/{name}", "w", encoding="ascii") as file:
+                file.write(name)
+        subprocess.run(["sh", "-c", command.replace("$$to", "to")], cwd=self.folder, check=False)
+        self.assertIn("sf.csv", os.listdir(f"{self.folder}/to"))
 
 
 class Doctor(unittest.TestCase):
