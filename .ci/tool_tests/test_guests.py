@@ -650,7 +650,7 @@ class Allow(unittest.TestCase):
         self.site.answers = ["go", "lost"]
         self.allow("--lapse", "--give-up", "9")
         self.assertEqual(self.allow("--lapse"), 0)
-        self.assertEqual(self.balance(), {b"al": 500, "ü 1".encode(): 630, b"bo": 695})
+        self.assertEqual(self.balance(), {b"al": 570, "ü 1".encode(): 630, b"bo": 695})
 
     def test_balances_of_before_say_of_nobody_what_is_left(self):
         """What was used since would be taken a second time."""

@@ -154,6 +154,14 @@ class Steps(unittest.TestCase):
         for text in ("server default {\n}\n", SERVER.format("x").replace("radacctd_login", "ok")):
             self.assertRaises(steps.Failed, setup_packages.default, text)
 
+    def test_a_section_for_refusals_is_found_as_the_site_spells_it(self):
+        """Of two sections FreeRADIUS would have only the first, and not the site's lines."""
+        for spelled in ("Post-Auth-Type Reject", "Post-Auth-Type  REJECT", "Post-Auth-Type\treject"):
+            text = f"authorize {{\n}}\npost-auth {{\n\t{spelled} {{\n\t\tattr_filter\n\t}}\n}}\n"
+            changed = setup_packages.inner(text)
+            self.assertEqual(changed.lower().count("post-auth-type"), 1, spelled)
+            self.assertIn("radacctd_packages_refused\n\t\tattr_filter", changed)
+
     def test_a_tunnel_of_the_site_s_own_counts_wrong_tries(self):
         once = setup_packages.inner("authorize {\n}\npost-auth {\n\tok\n}\n")
         self.assertIn("\tPost-Auth-Type REJECT {\n\tradacctd_packages_refused\n\t}\n", once)

@@ -61,13 +61,13 @@ class Joined(unittest.TestCase):
 
         def late(*words):
             with mock.patch("os.getpid", lambda: 1), mock.patch("os.fchmod", side_effect=OSError):
-                self.assertRaises(OSError, files.publish, path, "account,bal", self.now)
+                self.assertRaises(OSError, files.publish, path, "account,bal", moment=self.now)
             rename(*words)
 
         with mock.patch("os.rename", late), contextlib.suppress(FileNotFoundError):
-            files.publish(path, "whole", self.now)
+            files.publish(path, "whole", moment=self.now)
         self.assertFalse(os.path.exists(path))
-        files.publish(path, "whole", self.now)
+        files.publish(path, "whole", moment=self.now)
         with open(path, encoding="ascii") as file:
             self.assertEqual(file.read(), "whole")
         self.assertEqual([it for it in os.listdir(self.folder) if it.startswith("balances")],

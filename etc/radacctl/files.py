@@ -134,7 +134,7 @@ def replace(path, octets, mode=0o600, rights=None):
     sync_folder(os.path.dirname(path))
 
 
-def publish(path, text, mode=0o640, moment=None):
+def publish(path, text, *, mode=0o640, moment=None):
     """Replaces a file whole, for others to read; a moment becomes its time of change.
 
     It is the folder's owner's: root may give the command by hand, and no link is followed. Of two at

@@ -151,4 +151,5 @@ def join_counts(folder):
                     samples.setdefault(found[1], []).append(f"{found[1]}{{{labels}}} {found[3]}\n")
     text = "".join("".join([*heads.get(name, ()), *lines]) for name, lines in samples.items())
     if text:
-        files.publish(os.path.join(folder, "radacctd.prom"), text, 0o644, as_old_as(moments))
+        files.publish(os.path.join(folder, "radacctd.prom"), text, mode=0o644,
+                      moment=as_old_as(moments))

@@ -101,7 +101,7 @@ class Allowing:
 
     def run(self):
         for row in self.rows:
-            is_known = row.number in self.notes.least
+            had = self.notes.least.get(row.number)
             # Also without --lapse: so a later run with it takes nothing of this month.
             left = max(self.left.get(row.account, 0), 0)
             self.notes.add(row, left)
@@ -115,7 +115,8 @@ class Allowing:
             if found == "repeat":
                 # What is left now has this month in it. Somebody who noted nothing credited it; or a
                 # run of ours, which may have been killed before it knew that it was not the first.
-                self.notes.add(row, max(left - row.sum, 0) if is_known else 0)
+                is_own = had is not None and left > had
+                self.notes.add(row, max(left - row.sum, 0) if is_own else 0)
             elif found not in ("new", "repeat"):
                 self.faults.append(f"`{names.shown(row.account)}`: {found}")
             if self.books and found in ("new", "repeat"):

@@ -233,7 +233,8 @@ def credit(words, logins_store, found, known):
     new = [it for it in found if outcomes.get(names.shown(it.account)) == "new"]
     program.show(f"price {moneys.of_site().shown(sum(it.price for it in new))}")
     status = sells.report(outcomes, {}, {"": stop} if stop else {})
-    return sold_twice(new) or status
+    twice = sold_twice(new)
+    return status or twice
 
 
 def sold_twice(found):

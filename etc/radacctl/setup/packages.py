@@ -45,7 +45,7 @@ SAMPLE = """\
 """
 # In each server: the section, the line at its beginning, and the word that it has then.
 FIRST = {"authorize": "radacctd_packages", "post-auth": "radacctd_packages_right"}
-REFUSED = ("Post-Auth-Type REJECT", "radacctd_packages_refused")
+REFUSED = (r"Post-Auth-Type[ \t]+(?i:REJECT)", "radacctd_packages_refused")
 
 
 def of(_):
@@ -95,7 +95,7 @@ def inner(text):
         text = steps.begun(text, section, line)
     # A server of the site's own may lack the section: there no wrong try would count.
     if freeradius.place_of_section(text, REFUSED[0]) == (0, 0):
-        text = steps.begun(text, "post-auth", f"{REFUSED[0]} {{\n\t}}")
+        text = steps.begun(text, "post-auth", "Post-Auth-Type REJECT {\n\t}")
     return steps.begun(text, *REFUSED)
 
 
