@@ -114,6 +114,8 @@ def join(site):
     told = "200 accounts in 16 books, together 100000; faults 0"
     check("and says of how many", told in said, True)
     check("its timer starts", site.systemctl("enable --now radacctd-shards-check.timer")[0], 0)
+    kept = box.run("ls /var/lib/systemd/timers")[1]
+    check("and makes up for none at a boot, while books start", "shards-check" in kept, False)
     right = box.must("radacctd-shards of planted").split(" ")[0]
     wrong = next(it for it in SHARDS if it != right)
     body = '{"account":"planted","sum":5,"voucher":"X-1"}'
