@@ -244,7 +244,7 @@ def text(path):
 
 def behind_links(path):
     """The octets of a file on whose path links are; none if there is none."""
-    octets, why = read_as_owner(path, 10, "head", "-c", str(LARGEST + 1), "--", path)
+    octets, why = read_as_owner(path, 30, "head", "-c", str(LARGEST + 1), "--", path)
     if why and why not in ("No such file or directory", "Not a directory"):
         raise OSError(f"{path}: {why}")
     return octets
