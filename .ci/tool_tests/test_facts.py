@@ -40,6 +40,21 @@ class Expansions(unittest.TestCase):
                     found += alone.findall(file.read())
         self.assertEqual(found, [])
 
+    def test_nothing_for_perl_ends_with_what_may_be_empty(self):
+        """FreeRADIUS reads on behind a text that ends with a space, and gives old memory as words."""
+        inner = r"(?:[^{}]|\{(?:[^{}]|\{(?:[^{}]|\{[^{}]*\})*\})*\})*"
+        perl = re.compile(r"%\{radacctd_(?:queue|logins):(" + inner + r")\}")
+        # A whole record, a name, an address, and what has another value in its place.
+        full = re.compile(r"%\{control:Tmp-String-[15]\}|\$\{radacctd\.source\}|%\{.*:-0\}|(?:[A-Za-z0-9-]+)?=.*")
+        found = []
+        for name in ("policy", "devices", "server"):
+            with open(os.path.join(ROOT, "etc/freeradius", name), encoding="utf-8") as file:
+                found += [it.split()[-1] for it in perl.findall(file.read())]
+        self.assertGreater(len(found), 8)
+        # Behind a record a second one begins with its own space.
+        found = [it.removesuffix("%{control:Tmp-String-2}") for it in found]
+        self.assertEqual([it for it in found if not full.fullmatch(it)], [])
+
     def test_no_condition_compares_what_two_expansions_give(self):
         """Two texts of digits are numbers to FreeRADIUS, and all long ones the same number."""
         both = re.compile(r'"[^"\n]*%\{[^"\n]*" [!=]= "[^"\n]*%\{[^"\n]*"')

@@ -1,8 +1,8 @@
 # What FreeRADIUS remembers of logins, and what it counts of access servers. FreeRADIUS loads this by
 # its module rlm_perl, and calls it in an expansion:
 #
-#   keep SOURCE CLASS NAME NAME ID    remembers the Class of a login: "ok", or what is wrong
-#   look SOURCE NAME ID               the Class of a session: 0x and hex, or nothing
+#   keep SOURCE CLASS NAME NAME =ID   remembers the Class of a login: "ok", or what is wrong
+#   look SOURCE NAME =ID              the Class of a session: 0x and hex, or nothing
 #   count KIND SOURCE                 counts: "ok"
 #   note KIND SOURCE                  notes that it was now: "ok"
 #   name TEXT                         the name that is percent-encoded in a Class
@@ -51,7 +51,7 @@ sub key_of {
 
 sub keep {
     my ($source, $class, @names) = @_;
-    my $id = @names > 2 ? pop @names : "";
+    my $id = substr pop @names, 1;
     my $file = opened(O_RDWR | O_CREAT);
     my %keys = map { $_ => 1 } map { (key_of($source, $_), key_of($source, $_, $id)) } @names;
     for my $key (keys %keys) {
@@ -66,7 +66,7 @@ sub keep {
 }
 
 sub look {
-    my ($source, $name, $id) = @_;
+    my ($source, $name, $id) = ($_[0], $_[1], substr $_[2], 1);
     my $file = eval { opened(O_RDONLY) } or return "";
     for my $key (key_of($source, $name, $id), key_of($source, $name)) {
         my $class = class_at($file, $key);
