@@ -6,7 +6,7 @@
 //!    asked.
 //! 3. A receive that would block found nothing. Each other one that gives no datagram is a fault,
 //!    also if a signal interrupted it.
-ghost use Rattle.std.specs.Prelude.{◌≡◌, ◌<◌, true, false, length, slice_get, slice_set};
+ghost use Rattle.std.specs.Prelude.{◌≡◌, ◌<◌, ◌-◌, ◌^◌, true, false, length, slice_get, slice_set};
 ghost use Rattle.std.specs.Prelude.{MatchOption, OnOk, is_some};
 ghost use Rattle.std.specs.Prelude.{◌↔◌, ◌+◌, IfOk, IfSome, IsErrAnd, IsOkAnd};
 ghost use Rattle.std.specs.List.{All, list_any, position};
@@ -27,6 +27,8 @@ use std::net::{Ipv4Addr, Net, SocketAddr, SocketAddrV4, UdpSocket};
 pub struct Datagrams {
     sockets: Vec<RadiusSocket>,
     last: usize,
+    // How often a datagram was looked for.
+    receives: u64,
 }
 
 impl Drop for Datagrams {
@@ -34,6 +36,7 @@ impl Drop for Datagrams {
         let Datagrams {
             sockets: _,
             last: _,
+            receives: _,
         } = self;
     }
 }
@@ -65,12 +68,17 @@ impl Datagrams {
         ensures bound { IfOk result (λ bound. AreBoundAt addresses.now port bound.sockets.items) }
         ensures heard { IfOk result (λ bound.
             All (λ socket. socket.may_receive ≡ true) bound.sockets.items) }
+        ensures receives { IfOk result (λ bound. bound.receives ≡ 0) }
     {
         let mut sockets = Vec::with_capacity(alloc, addresses.len())?;
         for address in addresses {
             sockets.push(RadiusSocket::bind(runtime, *address, port)?)?;
         }
-        Ok(Datagrams { sockets, last: 0 })
+        Ok(Datagrams {
+            sockets,
+            last: 0,
+            receives: 0,
+        })
     }
 
     /// How many sockets there are.
@@ -114,7 +122,7 @@ impl Datagrams {
     /// Notes that a datagram may wait at the socket with this place.
     pub fn wake(&mut self, place: usize)
         ensures sockets { IsWokenAt place self.old.sockets.items self.new.sockets.items }
-        ensures last { self.new.last ≡ self.old.last }
+        ensures other { self.new ≡ record self.old { sockets = self.new.sockets } }
     {
         if let Some(socket) = self.sockets.get_mut(place) {
             socket.may_receive = true;
@@ -124,7 +132,7 @@ impl Datagrams {
     /// Notes that a datagram may wait at each socket.
     pub fn wake_all(&mut self)
         ensures woken { All (λ socket. socket.may_receive ≡ true) self.new.sockets.items }
-        ensures last { self.new.last ≡ self.old.last }
+        ensures other { self.new ≡ record self.old { sockets = self.new.sockets } }
     {
         for socket in self.sockets.iter_mut() {
             socket.may_receive = true;
@@ -132,17 +140,20 @@ impl Datagrams {
     }
 
     /// Receives a datagram into the buffer, if one waits. It gives its size and its source. If it
-    /// gives none, no socket may have one, as far as is known.
+    /// gives none, no socket may have one, as far as is known. It counts how often it is called.
     ///
     /// # Errors
     ///
     /// If the system fails.
     pub fn receive(&mut self, buffer: &mut [u8]) -> Result<Option<(usize, SocketAddrV4)>, Fault>
+        requires { self.old.receives < 2 ^ 64 - 1 }
+        ensures receives { self.new.receives ≡ self.old.receives + 1 }
         ensures none { IfOk result (λ received. received ≡ None
             → list_any (λ socket. socket.may_receive) self.new.sockets.items ≡ false) }
         ensures some { IfOk result (λ received. IfSome received (λ datagram.
             HasReceived self.new.sockets.items self.new.last datagram)) }
     {
+        self.receives += 1;
         while let Some(place) = self.next_place() {
             self.last = place;
             let socket = self.sockets.get_mut(place).ok_or(Fault)?;
@@ -180,7 +191,7 @@ impl Datagrams {
     pub fn reply(&mut self, bytes: &[u8], to: SocketAddrV4) -> Result<(), Fault>
         ensures sent { OnOk result
             (HasSent self.new.sockets.items self.new.last (length bytes.now, to)) }
-        ensures last { self.new.last ≡ self.old.last }
+        ensures other { self.new ≡ record self.old { sockets = self.new.sockets } }
     {
         let socket = self.sockets.get_mut(self.last).ok_or(Fault)?;
         match socket.send(bytes, to) {

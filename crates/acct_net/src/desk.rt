@@ -5,14 +5,14 @@
 //! 2. If no place is free, the silent caller that connected first is dropped for one that waits. So
 //!    strangers who hold every place keep nobody out.
 //! 3. What a turn does for callers is bounded, so that no datagram waits for all of them.
-ghost use Rattle.std.specs.Prelude.{◌≡◌, ◌⊎◌, None, Some, true, false, IfOk, IfSome, IsTrue, OnErr};
+ghost use Rattle.std.specs.Prelude.{◌≡◌, ◌≢◌, ◌⊎◌, ◌+◌, None, Some, true, false, IfOk, IfSome, IsTrue, OnErr};
 ghost use Rattle.std.specs.Prelude.{OnOk};
 ghost use Rattle.std.specs.Prelude.{◌↔◌, slice_get, slice_set, IsOk, MatchOption};
 ghost use Rattle.std.specs.IoError.{error_kind};
 ghost use Rattle.acct_net.specs.inner.Places.{IsWaiting, Answers, IsReadyAt, HasReady, IsWoken};
 ghost use Rattle.acct_net.specs.inner.Places.{ChangesOnly, HasReceived, IsPaidAt, has_ready};
 ghost use Rattle.acct_net.specs.inner.Places.{HasNoneToDrop, IsDroppable, IsFirstToDrop, IsLate};
-ghost use Rattle.acct_net.specs.inner.Places.{IsEarlier, accepted_at};
+ghost use Rattle.acct_net.specs.inner.Places.{IsEarlier, IsServed, accepted_at};
 ghost use Rattle.std.specs.Time.{instant_nanos};
 ghost use Rattle.acct_net.specs.inner.Turns.{in_turn};
 ghost use Rattle.std.specs.List.{All, HoldsAt, position};
@@ -34,6 +34,17 @@ pub const PLACES: usize = 64;
 const ACCEPTS_OF_A_TURN: u32 = 8;
 /// The most reads and writes of callers in a turn.
 const STEPS_OF_A_TURN: u32 = 8;
+
+// What one step of the callers came to.
+#[derive(Drop)]
+enum Served {
+    // No caller is ready.
+    Nobody,
+    // The request of a caller is not there yet.
+    Pending,
+    // This request of a caller, which awaits its response.
+    Request(Octets),
+}
 
 // What accepts callers, and where it is bound.
 struct Door<L> {
@@ -212,7 +223,13 @@ impl<R: Net> Desk<R> {
     }
 
     // Accepts callers that wait, while there are places for them.
-    fn accept(&mut self, readiness: &Readiness, now: Instant) -> Result<(), Fault> {
+    fn accept(&mut self, readiness: &Readiness, now: Instant) -> Result<(), Fault>
+        ensures { self.new ≡ record self.old {
+          may_accept = self.new.may_accept;
+          is_full = self.new.is_full;
+          places = self.new.places;
+        } }
+    {
         for _ in 0..ACCEPTS_OF_A_TURN {
             if !self.accept_next(readiness, now)? {
                 return Ok(());
@@ -226,7 +243,17 @@ impl<R: Net> Desk<R> {
     fn accept_next(&mut self, readiness: &Readiness, now: Instant) -> Result<bool, Fault>
         ensures rests { IfOk result (λ goes_on. goes_on ≡ false
             → (self.new.may_accept ≡ false) ⊎ (self.new.is_full ≡ true)) }
-        ensures one { (place : ℕ) × ChangesOnly place self.old.places.items self.new.places.items }
+        ensures free { (place : ℕ) → position is_none self.old.places.items ≡ Some place
+            → ChangesOnly place self.old.places.items self.new.places.items }
+        ensures full { position is_none self.old.places.items ≡ None
+            → (self.new.places.items ≡ self.old.places.items)
+            ⊎ ((place : ℕ) × IsFirstToDrop self.old.places.items now (length self.old.places.items)
+            place × ChangesOnly place self.old.places.items self.new.places.items) }
+        ensures other { self.new ≡ record self.old {
+          may_accept = self.new.may_accept;
+          is_full = self.new.is_full;
+          places = self.new.places;
+        } }
     {
         if !self.may_accept {
             return Ok(false);
@@ -242,7 +269,12 @@ impl<R: Net> Desk<R> {
 
     // Accepts a caller that waits, if there is one, in the place of whoever is there.
     fn accept_at(&mut self, place: usize, readiness: &Readiness, now: Instant) -> Result<(), Fault>
-        ensures { ChangesOnly place self.old.places.items self.new.places.items }
+        ensures places { ChangesOnly place self.old.places.items self.new.places.items }
+        ensures other { self.new ≡ record self.old {
+          may_accept = self.new.may_accept;
+          is_full = self.new.is_full;
+          places = self.new.places;
+        } }
     {
         let stream = match self.door.listener.accept() {
             Ok((stream, _)) => stream,
@@ -287,15 +319,35 @@ impl<R: Net> Desk<R> {
             (IsWaiting self.new.unanswered self.new.places.items)) }
     {
         for _ in 0..STEPS_OF_A_TURN {
-            let Some(place) = self.ready_place() else {
-                return Ok(None);
-            };
-            self.next = place.wrapping_add(1);
-            if let Some(request) = self.serve_at(place, buffer, now)? {
-                return Ok(Some(request));
+            match self.serve_next(buffer, now)? {
+                Served::Nobody => return Ok(None),
+                Served::Request(request) => return Ok(Some(request)),
+                Served::Pending => {}
             }
         }
         Ok(None)
+    }
+
+    // Makes one step of the caller whose turn it is among those that are ready. The next turn is of
+    // one behind it.
+    fn serve_next(&mut self, buffer: &mut [u8], now: Instant) -> Result<Served, Fault>
+        ensures turn { MatchOption (in_turn has_ready self.old.places.items self.old.next)
+            (self.new ≡ self.old) (λ place. (self.new.next ≡ place + 1)
+            × ChangesOnly place self.old.places.items self.new.places.items) }
+        ensures nobody { in_turn has_ready self.old.places.items self.old.next ≡ None
+            → result ≡ Ok Served.Nobody }
+        ensures somebody { IsSome (in_turn has_ready self.old.places.items self.old.next)
+            → result ≢ Ok Served.Nobody }
+        ensures waiting { IfOk result (IsServed self.new.unanswered self.new.places.items) }
+    {
+        let Some(place) = self.ready_place() else {
+            return Ok(Served::Nobody);
+        };
+        self.next = place + 1;
+        match self.serve_at(place, buffer, now)? {
+            Some(request) => Ok(Served::Request(request)),
+            None => Ok(Served::Pending),
+        }
     }
 
     // Makes one step of the caller at a place, and gives its request if that is there now.
@@ -311,6 +363,13 @@ impl<R: Net> Desk<R> {
             R.Stream.remaining R.Stream.contents self.new.unanswered
             self.old.places.items self.new.places.items)) }
         ensures others { ChangesOnly place self.old.places.items self.new.places.items }
+        ensures none { IfOk result (λ request. request ≡ None
+            → self.new.unanswered ≡ self.old.unanswered) }
+        ensures other { self.new ≡ record self.old {
+          is_full = self.new.is_full;
+          places = self.new.places;
+          unanswered = self.new.unanswered;
+        } }
     {
         let slot = self.places.get_mut(place).ok_or(Fault)?;
         let mut caller = slot.take().ok_or(Fault)?;
@@ -372,6 +431,7 @@ impl<R: Net> Desk<R> {
     fn ready_place(&self) -> Option<usize>
         ensures ready { IfSome result (IsReadyAt self.now.places.items) }
         ensures none { result ≡ None → ¬ HasReady self.now.places.items }
+        ensures within { IfSome result (λ place. place < length self.now.places.items) }
         ensures turn { result ≡ in_turn has_ready self.now.places.items self.now.next }
     {
         let places = self.places.as_slice();

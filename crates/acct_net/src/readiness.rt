@@ -1,5 +1,6 @@
 //! Which sockets are ready: a read or a write there need not wait.
-ghost use Rattle.std.specs.Prelude.{◌≡◌, ◌+◌, ◌-◌, ◌<◌, ◌^◌, IfOk};
+ghost use Rattle.std.specs.Prelude.{◌≡◌, ◌+◌, ◌-◌, ◌<◌, ◌^◌, IfOk, IsErr, IsTrue, ◌↔◌, length};
+ghost use Rattle.mio.specs.Events.{items};
 
 use mio::unix::SourceFd;
 use mio::{Events, Interest, Poll, Token};
@@ -15,7 +16,10 @@ use std::time::Duration;
 pub struct Readiness {
     poll: Poll,
     events: Events<Global>,
+    // How many waits there were, the most milliseconds of the last one, and whether it failed.
     waits: u64,
+    most: u64,
+    has_failed: bool,
 }
 
 impl Readiness {
@@ -31,6 +35,8 @@ impl Readiness {
             poll: Poll::new(runtime)?,
             events: Events::with_capacity(alloc, capacity)?,
             waits: 0,
+            most: 0,
+            has_failed: false,
         })
     }
 
@@ -64,17 +70,31 @@ impl Readiness {
             .register(&mut SourceFd(&descriptor), Token(number), interest)
     }
 
-    /// Waits until a socket is ready, but no longer than the timeout. It counts its waits.
+    /// Waits until a socket is ready, but no longer than so many milliseconds. It counts its waits.
     ///
     /// # Errors
     ///
     /// Those of the system.
-    pub fn wait(&mut self, timeout: Duration) -> io::Result<()>
+    pub fn wait(&mut self, most: u64) -> io::Result<()>
         requires { self.old.waits < 2 ^ 64 - 1 }
-        ensures { self.new.waits ≡ self.old.waits + 1 }
+        ensures waits { self.new.waits ≡ self.old.waits + 1 }
+        ensures most { self.new.most ≡ most }
+        ensures failed { IsTrue self.new.has_failed ↔ IsErr result }
     {
         self.waits += 1;
-        self.poll.poll(&mut self.events, Some(timeout))
+        self.most = most;
+        let waited = self
+            .poll
+            .poll(&mut self.events, Some(Duration::from_millis(most)));
+        self.has_failed = waited.is_err();
+        waited
+    }
+
+    /// Whether the last wait was given time, and found no socket ready.
+    pub fn has_found_none(&self) -> bool
+        ensures { IsTrue result ↔ ((0 < self.now.most) × (length (items self.now.events) ≡ 0)) }
+    {
+        self.most > 0 && self.events.is_empty()
     }
 
     /// The sockets that were found ready. A read or a write there may still block.

@@ -12,8 +12,9 @@
 //! 5. While a flag is set, what arrives is received and not handed on. Nobody is answered.
 //! 6. The buffer for a datagram is allocated once, and not for each turn.
 ghost use Rattle.std.specs.Prelude.{◌≡◌, ◌+◌, ◌-◌, ◌<◌, ◌^◌, false, None, IfOk, IfSome, OnOk, take};
-ghost use Rattle.std.specs.Prelude.{◌≤◌, Some, length, not, slice_get, true};
-ghost use Rattle.std.specs.List.{list_any};
+ghost use Rattle.std.specs.Prelude.{◌≤◌, ◌⊎◌, IsTrue, OnErr, Some, length, not, slice_get, true};
+ghost use Rattle.std.specs.List.{All, list_any};
+ghost use Rattle.mio.specs.Events.{items};
 ghost use Rattle.acct_service.specs.Told.{CountsFault, Grows, given, sent};
 ghost use Rattle.acct_net.specs.Bound.{AreBoundAt};
 ghost use Rattle.acct_net.specs.inner.Places.{HasReady, IsAnswered, IsOfUnanswered, IsWoken};
@@ -31,7 +32,7 @@ use std::cell::Cell;
 use std::io;
 use std::io::ErrorKind;
 use std::net::{Ipv4Addr, Net, OpenListener, SocketAddrV4};
-use std::time::{Clock, Duration, Instant};
+use std::time::{Clock, Instant};
 
 /// The most octets of a datagram.
 const LONGEST_DATAGRAM: usize = 65_535;
@@ -50,6 +51,7 @@ pub struct Sockets<'r, R: Net> {
     // While this is set, nothing is handed on.
     silenced: Option<&'r Cell<bool>>,
     ghost waited: { event_loop.readiness.waits ≡ turns },
+    ghost received: { event_loop.datagrams.receives ≤ turns },
 }
 
 impl<'r, R: Net> Drop for Sockets<'r, R> {
@@ -271,9 +273,14 @@ impl<'r, R: Net + Clock> EventLoop<'r, R> {
     }
 
     // The event of a turn, if there is one. A caller that was not answered in the last turn is
-    // dropped.
+    // dropped. No fault keeps datagrams out: in its turn, or first in the next one, they are received.
     fn next_event(&mut self) -> Result<Option<Event>, Fault>
-        requires { self.old.readiness.waits < 2 ^ 64 - 1 }
+        requires waits { self.old.readiness.waits < 2 ^ 64 - 1 }
+        requires receives { self.old.datagrams.receives < 2 ^ 64 - 1 }
+        ensures receives { self.new.datagrams.receives ≤ self.old.datagrams.receives + 1 }
+        ensures fault { OnErr result (IsTrue self.new.readiness.has_failed
+            ⊎ ((self.new.datagrams.receives ≡ self.old.datagrams.receives + 1)
+            ⊎ ((self.old.are_callers_first ≡ true) × (self.new.are_callers_first ≡ false)))) }
         ensures waits { self.new.readiness.waits ≡ self.old.readiness.waits + 1 }
         ensures idle { IfOk result (λ event. event ≡ None → list_any (λ socket. socket.may_receive)
             self.new.datagrams.sockets.items ≡ false) }
@@ -311,17 +318,27 @@ impl<'r, R: Net + Clock> EventLoop<'r, R> {
         requires { self.old.readiness.waits < 2 ^ 64 - 1 }
         ensures waits { self.new.readiness.waits ≡ self.old.readiness.waits + 1 }
         ensures turn { self.new.are_callers_first ≡ self.old.are_callers_first }
+        ensures receives { self.new.datagrams.receives ≡ self.old.datagrams.receives }
+        ensures fault { OnErr result (IsTrue self.new.readiness.has_failed) }
+        ensures most { self.new.readiness.most ≤ MOST_WAIT }
+        ensures datagrams { list_any (λ socket. socket.may_receive)
+            self.old.datagrams.sockets.items ≡ true → self.new.readiness.most ≡ 0 }
+        ensures accepts { self.old.desk.may_accept ≡ true → self.old.desk.is_full ≡ false
+            → self.new.readiness.most ≡ 0 }
+        ensures callers { HasReady self.old.desk.places.items → self.new.readiness.most ≡ 0 }
+        ensures idle { OnOk result (0 < self.new.readiness.most
+            → length (items self.new.readiness.events) ≡ 0
+            → All (λ socket. socket.may_receive ≡ true) self.new.datagrams.sockets.items
+            × (self.new.desk.may_accept ≡ true)) }
     {
         let most = self.most_wait();
-        let waited = self.readiness.wait(Duration::from_millis(most));
-        waited.map_err(|_| Fault)?;
-        if most > 0 && self.readiness.events().is_empty() {
+        self.readiness.wait(most).map_err(|_| Fault)?;
+        if self.readiness.has_found_none() {
             self.datagrams.wake_all();
             self.desk.wake_listener();
+            return Ok(());
         }
-        for event in self.readiness.events() {
-            wake(&mut self.datagrams, &mut self.desk, event.token().0);
-        }
+        wake_found(&self.readiness, &mut self.datagrams, &mut self.desk);
         Ok(())
     }
 
@@ -364,6 +381,8 @@ impl<'r, R: Net + Clock> EventLoop<'r, R> {
 
     // The datagram that waits, if one does.
     fn next_datagram(&mut self) -> Result<Option<Event>, Fault>
+        requires { self.old.datagrams.receives < 2 ^ 64 - 1 }
+        ensures receives { self.new.datagrams.receives ≡ self.old.datagrams.receives + 1 }
         ensures waits { self.new.readiness.waits ≡ self.old.readiness.waits }
         ensures asked { IfOk result (λ event. IfSome event (λ it.
             IsOfUnanswered self.new.desk.unanswered self.new.desk.places.items it.what)) }
@@ -404,6 +423,7 @@ impl<'r, R: Net + Clock> EventLoop<'r, R> {
     // Sends octets to the source of an event: a response of the desk to the unanswered caller.
     fn send(&mut self, what: &What, bytes: &[u8]) -> Result<(), Fault>
         ensures waits { self.new.readiness.waits ≡ self.old.readiness.waits }
+        ensures receives { self.new.datagrams.receives ≡ self.old.datagrams.receives }
         ensures answered { OnOk result (IsAnswered R.Stream.contents what.now
             self.old.desk.unanswered self.old.desk.places.items self.new.desk.places.items
             bytes.now) }
@@ -423,6 +443,15 @@ impl<'r, R: Net + Clock> EventLoop<'r, R> {
     }
 }
 
+// Notes that what was found ready may be so.
+fn wake_found<R: Net>(readiness: &Readiness, datagrams: &mut Datagrams, desk: &mut Desk<R>)
+    ensures { datagrams.new.receives ≡ datagrams.old.receives }
+{
+    for event in readiness.events() {
+        wake(datagrams, desk, event.token().0);
+    }
+}
+
 // Notes that what is watched under this number may be ready.
 fn wake<R: Net>(datagrams: &mut Datagrams, desk: &mut Desk<R>, number: usize)
     ensures socket { LISTENER < number → IsWokenAt (number - DATAGRAMS)
@@ -431,6 +460,7 @@ fn wake<R: Net>(datagrams: &mut Datagrams, desk: &mut Desk<R>, number: usize)
         × (datagrams.new ≡ datagrams.old) }
     ensures caller { number < LISTENER → IsWoken (slice_get desk.old.places.items number) number
         desk.old.places.items desk.new.places.items × (datagrams.new ≡ datagrams.old) }
+    ensures receives { datagrams.new.receives ≡ datagrams.old.receives }
 {
     match number {
         LISTENER => desk.wake_listener(),

@@ -82,6 +82,7 @@ impl<S: Read + Write + OpenStream + Drop> Caller<S> {
     /// Those of the system.
     pub fn new(alloc: Global, stream: S, now: Instant) -> io::Result<Caller<S>>
         ensures fresh { IfOk result (λ caller. IsFresh caller.stage) }
+        ensures stream { IfOk result (λ caller. caller.stream ≡ stream) }
         ensures times { IfOk result (λ caller. (caller.accepted ≡ now)
             × (caller.last_active ≡ now) × (caller.is_ready ≡ true)) }
     {

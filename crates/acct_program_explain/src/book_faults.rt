@@ -1,8 +1,12 @@
 //! Why a database is not the book that is wanted.
+ghost use Rattle.std.specs.Prelude.{◌≡◌, ◌⊎◌};
+ghost use Rattle.sqlite.specs.Held.{state};
+ghost use Rattle.acct_sql_tables.specs.Look.{LooksAtTables};
+
+use crate::plan_rows::plan_rows;
 use acct_model::{Plan, show};
 use acct_sql_tables::cells::{has_blob, has_count, value_at};
 use acct_sql_tables::columns::mode_of;
-use acct_sql_tables::statements::{PLAN_COUNTS, PLANS};
 use sqlite::types::ValueRef;
 use sqlite::{Alter, Connection, Row};
 use sqlite_schema::schema::Schema;
@@ -41,17 +45,19 @@ fn has_table(schema: &Schema, name: &[u8]) -> bool {
 }
 
 /// Writes one line that says which plan of a configuration differs from those that a book keeps and
-/// how, or which one the configuration lacks. Writes nothing if the book cannot be read. The line
-/// calls the book `file`. A writer that fails changes nothing.
+/// how, or which one the configuration lacks. Writes nothing if the book cannot be read, and changes
+/// nothing in it. The line calls the book `file`. A writer that fails changes nothing.
 pub fn explain_plans<S: Alter, E: Write>(
     alloc: Global,
     conn: &mut Connection<S>,
     file: &str,
     plans: &[Plan],
     errors: &mut E,
-) {
-    let (Ok(prices), Ok(counts)) = (conn.query_all(PLANS, &[]), conn.query_all(PLAN_COUNTS, &[]))
-    else {
+)
+    ensures { (conn.new ≡ conn.old)
+        ⊎ LooksAtTables (state S.Store conn.old) (state S.Store conn.new) }
+{
+    let Some((prices, counts)) = plan_rows(conn) else {
         return;
     };
     for plan in plans {

@@ -14,6 +14,7 @@ mod finding;
 mod headers;
 mod locks;
 mod log_faults;
+mod plan_rows;
 mod reading;
 mod sample_values;
 mod socket_faults;

@@ -6,6 +6,8 @@ use Rattle.std.specs.Time.{instant_nanos}
 use Rattle.std.specs.declared.time.Instant.{Instant}
 use Rattle.acct_service.specs.declared.event.What.{What}
 use Rattle.acct_service.specs.declared.event.What.TheVariants as what
+use Rattle.acct_net.specs.declared.desk.Served.{Served}
+use Rattle.acct_net.specs.declared.desk.Served.TheVariants as served
 use Rattle.acct_net_callers.specs.declared.caller.Caller.{Caller}
 use Rattle.acct_net_callers.specs.declared.caller.Stage.TheVariants as stage
 use Rattle.acct_net_callers.specs.declared.caller.Step.TheVariants as step
@@ -39,6 +41,12 @@ module _ {S : Type 0} where
   IsWaiting (Some place) places request =
       (caller : Caller S) × IsAt places place caller × (caller.stage ≡ stage.Waiting request)
   IsWaiting None places request = ⊥
+
+  -- a request that a step of the callers came to is of the unanswered caller
+  abbrev pub IsServed : Option ℕ → List (Option (Caller S)) → Served → Type 0
+  IsServed unanswered places served.Nobody = ⊤
+  IsServed unanswered places served.Pending = ⊤
+  IsServed unanswered places (served.Request request) = IsWaiting unanswered places request
 
   -- if an event is a request at the desk, the unanswered caller sent it
   abbrev pub IsOfUnanswered : Option ℕ → List (Option (Caller S)) → What → Type 0

@@ -3,8 +3,8 @@ use Rattle.std.specs.Prelude.{slice_set}
 use Rattle.acct_net.proofs.PlaceLemmas.{put_again}
 use Rattle.acct_net.proofs.desk.Desk.accept_at.Goals as goal
 
-pub returns-in-Some : goal.returns-in-Some
-returns-in-Some g c = inr (
+pub returns-in-Some-clause-places : goal.returns-in-Some-clause-places
+returns-in-Some-clause-places g c = inr (
   Some c.in_ok-caller.caller,
   ap (λ places. slice_set places c.args.place (Some c.in_ok-caller.caller))
       c.close_at-closed.ensures.places

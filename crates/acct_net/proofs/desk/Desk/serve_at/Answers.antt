@@ -45,4 +45,6 @@ returns-in-Received g c =
         proceeds = proceeds;
       };
       others = inr (Some c.proceed.new.self, refl);
+      none = λ is. absurd (cc is);
+      other = refl;
     }
