@@ -71,6 +71,7 @@ impl Readiness {
     }
 
     /// Waits until a socket is ready, but no longer than so many milliseconds. It counts its waits.
+    /// No contract of the system says how long it waits: that it is given `most` is read by eye.
     ///
     /// # Errors
     ///

@@ -273,7 +273,8 @@ impl<'r, R: Net + Clock> EventLoop<'r, R> {
     }
 
     // The event of a turn, if there is one. A caller that was not answered in the last turn is
-    // dropped. No fault keeps datagrams out: in its turn, or first in the next one, they are received.
+    // dropped. No fault of a caller keeps datagrams out: one is looked for in the same turn, or first
+    // in the next one.
     fn next_event(&mut self) -> Result<Option<Event>, Fault>
         requires waits { self.old.readiness.waits < 2 ^ 64 - 1 }
         requires receives { self.old.datagrams.receives < 2 ^ 64 - 1 }
@@ -443,7 +444,7 @@ impl<'r, R: Net + Clock> EventLoop<'r, R> {
     }
 }
 
-// Notes that what was found ready may be so.
+// Wakes what the last wait found ready.
 fn wake_found<R: Net>(readiness: &Readiness, datagrams: &mut Datagrams, desk: &mut Desk<R>)
     ensures { datagrams.new.receives ≡ datagrams.old.receives }
 {
