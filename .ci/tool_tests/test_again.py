@@ -610,6 +610,7 @@ class Served(Folder):
 
     def test_a_certificate_that_freeradius_has_not_read_is_told(self):
         self.patched(of_front.look, "certificate", lambda *_: [])
+        self.patched(freeradius, "eaps", lambda: ["mods-enabled/eap"])
         self.patched(freeradius, "text", lambda *_: f"certificate_file = {self.put('x')}\n")
         for begun, count in ((time.time() - 60, 1), (time.time() + 60, 0), (None, 0)):
             self.patched(machine, "begin_of", lambda _, it=begun: it)

@@ -627,6 +627,7 @@ class Unseen(unittest.TestCase):
         with unittest.mock.patch.object(look, "must", lambda *words: seen.append(words) or DATES), \
                 unittest.mock.patch.object(look, "status_of", lambda _: True), \
                 unittest.mock.patch.object(freeradius, "file_at", lambda it: it), \
+                unittest.mock.patch.object(freeradius, "eaps", lambda: ["mods-enabled/eap"]), \
                 unittest.mock.patch.object(
                     freeradius, "text", lambda *_: "certificate_file = /dev/watchdog\n"):
             list(fronts.certificates())
