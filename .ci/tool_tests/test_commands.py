@@ -69,7 +69,7 @@ class DebitCommand(unittest.TestCase):
     """What the command ends with, whoever sends the debits."""
 
     def ends(self, words, take=None):
-        books = mock.Mock(take=mock.Mock(side_effect=take))
+        books = mock.Mock(take=mock.Mock(side_effect=take, return_value=False))
         with tempfile.TemporaryDirectory() as folder, contextlib.redirect_stdout(io.StringIO()), \
                 contextlib.redirect_stderr(io.StringIO()), \
                 mock.patch.object(debits, "Books", lambda _: books):
@@ -85,7 +85,7 @@ class DebitCommand(unittest.TestCase):
         self.assertEqual(self.ends(one), (0, [al]))
         self.assertEqual(self.ends(each), (0, [al, bo]))
         self.assertEqual(self.ends(one, debits.Refused("no")), (1, [al]))
-        self.assertEqual(self.ends(each, [debits.Refused("no"), None]), (1, [al, bo]))
+        self.assertEqual(self.ends(each, [debits.Refused("no"), False]), (1, [al, bo]))
         self.assertEqual(self.ends(one, debits.NoAnswer("none")), (3, [al]))
         self.assertEqual(self.ends(each, debits.NoAnswer("none")), (3, [al]))
         self.assertEqual(self.ends(["--list", "--journal", "{}.none"]), (1, []))
@@ -111,6 +111,19 @@ class Debits(unittest.TestCase):
                 self.assertIsNone(books.journal.given(second))
                 books.journal.close()
 
+    def test_what_was_taken_before_is_said_to_be_so(self):
+        """Else who gives last month's numbers again believes that their sums were taken."""
+        with tempfile.TemporaryDirectory() as folder:
+            books = debits.Books.__new__(debits.Books)
+            books.journal = debits.Journal(os.path.join(folder, "debits.csv"))
+            books.secret, books.is_answered = b"s", lambda packet: True
+            for said in ("taken 1, before 0, refused 1\n", "taken 0, before 1, refused 1\n"):
+                with contextlib.redirect_stdout(io.StringIO()) as shown, \
+                        contextlib.redirect_stderr(io.StringIO()):
+                    debit.take_all(books, [(b"al", 5, "FEE-1"), (b"bo", 5, "FEE-1")])
+                self.assertTrue(shown.getvalue().endswith(said), shown.getvalue())
+                self.assertEqual("taken before" in shown.getvalue(), "before 1" in said)
+            books.journal.close()
 
     def test_a_journal_that_another_run_has_is_not_waited_for_for_ever(self):
         """Else a file of many debits would hold up cashiers, who make and check out guests."""

@@ -123,10 +123,9 @@ class Journal(stock.Log):
         self.rows = [[names.text_of_cell(it) for it in row] for row in rows][1:]
         if text and not text.startswith(HEADER) or any(len(row) != 5 for row in self.rows):
             raise Refused(f"{path} is no journal of debits")
-        self.known = {}
+        self.known, self.answered = {}, set()
         for _, event, number, *debit in self.rows:
-            if event == GIVEN:
-                self.known.setdefault(number, debit)
+            self.keep(event, number, debit)
 
     def given(self, number):
         """The account and the sum that a number was first given with, or None."""
@@ -134,7 +133,12 @@ class Journal(stock.Log):
 
     def note(self, event, number, account, total):
         self.add_alone(stock.lines_of([[int(time.time()), event, number, account, total]]))
-        self.known.setdefault(number, [account, str(total)])
+        self.keep(event, number, [account, str(total)])
+
+    def keep(self, event, number, debit):
+        self.known.setdefault(number, debit)
+        if event == ANSWERED:
+            self.answered.add(number)
 
 
 def others_of(number):
@@ -184,8 +188,11 @@ class Books:
         self.journal = Journal(words.journal)
 
     def take(self, account, total, number):
-        """Takes a sum; refuses it before it is sent, or says that there was no answer."""
+        """Takes a sum; refuses it before it is sent, or says that there was no answer. Returns
+        whether it was taken before: it is sent again, since the book may be an older one.
+        """
         name, known = shown(account), self.journal.given(number)
+        was_taken = number in self.journal.answered
         for other in others_of(number):
             if taken := self.journal.given(other):
                 raise Refused(f"{other} was given before: {taken[1]} from {taken[0]}. It takes the "
@@ -194,8 +201,6 @@ class Books:
             self.note(GIVEN, number, name, total)
         elif known != [name, str(total)]:
             raise Refused(f"{number} was given before: {known[1]} from {known[0]}")
-        else:
-            program.say(f"{number} was given before with this account and sum: it is sent again")
         packet = request(number, account, total, self.secret)
         if not self.is_answered(packet):
             raise NoAnswer(self.silence(number))
@@ -205,7 +210,9 @@ class Books:
                 self.note(ANSWERED, number, name, total)
             except Refused as why:
                 program.say(f"{number} is taken, but {why}: so --list says that it has no answer")
-            program.show(f"{number}: {total} taken from {name}")
+            again = ", once: this number was taken before" * was_taken
+            program.show(f"{number}: {total} taken from {name}{again}")
+        return was_taken
 
     def note(self, event, *debit):
         try:

@@ -25,7 +25,8 @@ pair, if /etc/default/radacctd-pair is there, the debit goes to FreeRADIUS at 12
 which gives it to both books.
 
 The journal, /var/lib/radacctd-books/debits.csv, has each debit before it is sent. A NUMBER that was
-given with another account or sum is refused. --list prints the journal.
+given with another account or sum is refused. Of one that was taken before it says so; of a file it
+counts these. --list prints the journal.
 
 The configuration must have the client and the plan, and the book must keep the plan: else the
 server would price the debit by another plan. Both are tested before anything is sent. The secret of
@@ -62,14 +63,15 @@ def debits_of(path):
 
 def take_all(books, found):
     """Takes many debits; one that the journal refuses doesn't stop the others."""
-    refused = 0
+    before = refused = 0
     for debit in found:
         try:
-            books.take(*debit)
+            before += books.take(*debit)
         except debits.Refused as why:
             refused += 1
             program.say(why)
-    program.show(f"taken {len(found) - refused}, refused {refused}")
+    taken = len(found) - before - refused
+    program.show(f"taken {taken}, before {before}, refused {refused}")
     return 1 if refused else 0
 
 
@@ -77,11 +79,10 @@ def list_debits(path):
     if not os.path.exists(path):
         raise debits.Refused(f"there is no journal {path}")
     journal = debits.Journal(path)
-    answered = {row[2] for row in journal.rows if row[1] == debits.ANSWERED}
     for moment, event, number, account, total in journal.rows:
         if event == debits.GIVEN:
             when = time.strftime("%Y-%m-%d %H:%M:%S", time.localtime(int(moment)))
-            end = "" if number in answered else "  no answer: give it again"
+            end = "" if number in journal.answered else "  no answer: give it again"
             print(f"{when}  {number}  {account}  {total}{end}")
     return 0
 
