@@ -129,7 +129,8 @@ class Lost(Asking):
         box.must("systemctl restart nginx; systemctl enable nginx 2>&1")
         desk_page.put_redeem(box, REDEEM_KEY)
         self.set_up_pair()
-        for name, text in (("books.secret", "books-secret"), ("cashier.key", CASHIER)):
+        keys = f"{CASHIER}\n{REDEEM_KEY}"
+        for name, text in (("books.secret", "books-secret"), ("cashier.key", keys)):
             box.write(f"/etc/radacctd-{name}", text + "\n", 0o600)
         timers = "radacctd-nightly.timer radacctd-key.timer radacctd-outbox"
         box.must(f"systemctl enable --now {timers} 2>&1")
@@ -149,7 +150,7 @@ class Lost(Asking):
         box = self.box
         text = "voucher,account,sum\\nA-1,al,500\\nA-2,bo,70\\n"
         box.must(f"printf '{text}' | radacctd-sell --key-file /etc/radacctd-cashier.key")
-        told = box.must(f"printf 'voucher,account,sum\\nB-1,cy,60\\n' | radacctd-sell --port 8067"
+        told = box.must(f"printf 'voucher,account,sum\\nB-1,cy,60\\n' | radacctd-sell"
                         " --key-file /etc/radacctd-cashier.key")
         check("a sale by the outbox", "added 1" in told, True)
         check("a report", pair_page.report(box, "S-1", "al", 3 << 20), True)
@@ -251,5 +252,5 @@ class Again(Asking):
         box.must("systemctl start radacctd-nightly")
         box.must("systemctl restart radacctd-outbox")
         told = box.must(f"printf 'voucher,account,sum\\nB-1,cy,60\\nB-2,cy,1\\n' | radacctd-sell"
-                        " --port 8067 --key-file /etc/radacctd-cashier.key")
+                        " --key-file /etc/radacctd-cashier.key")
         check("the outbox knows its sale", "added 1, repeated 1, refused 0\n" in told, True)

@@ -177,9 +177,9 @@ def report(it, session, account, octets, plan="gold", more=(), server="127.0.0.1
     return "Received Accounting-Response" in it.run(command)[1]
 
 
-def sell(it, records, port=8067):
+def sell(it, records):
     text = "\\n".join(["voucher,account,sum", *records])
-    return it.run(f"printf '{text}\\n' | radacctd-sell --port {port} 2>/dev/null")[1].strip()
+    return it.run(f"printf '{text}\\n' | radacctd-sell 2>/dev/null")[1].strip()
 
 
 def balances(it):
@@ -411,7 +411,8 @@ def differ(first, second):
     text = section(PAGE, "Alarms")
     commands = steps(text[text.index("### If balances differ") : text.index("### If one book")])
     lacks = "printf 'voucher,account,sum\\nONE-1,eve,50\\n'"
-    said = first.run(f"{lacks} | radacctd-sell --host {ADDRESSES[0]} 2>/dev/null")[1].strip()
+    straight = "radacctd-sell --port 8066 --host"
+    said = first.run(f"{lacks} | {straight} {ADDRESSES[0]} 2>/dev/null")[1].strip()
     check("a voucher is sold straight at one desk", said, ADDED)
     for it, line in ((first, "account eve: 50 here, 0 there"), (second, "account eve: 0 here, 50")):
         journal_has(it, line)
@@ -436,11 +437,11 @@ def refused(first, second):
     text = section(PAGE, "Alarms")
     commands = steps(text[text.index("### If one book refuses") :])
     at = lambda address, line: first.run(
-        f"printf 'voucher,account,sum\\n{line}\\n' | radacctd-sell --host {address} 2>/dev/null"
+        f"printf 'voucher,account,sum\\n{line}\\n' | "
+        f"radacctd-sell --port 8066 --host {address} 2>/dev/null"
     )[1].strip()
     check("X-1 is sold to gus straight at one desk", at(ADDRESSES[0], "X-1,gus,5"), ADDED)
-    outbox = "radacctd-sell --port 8067 --give-up 1"
-    second.run(f"printf 'voucher,account,sum\\nX-1,hal,7\\n' | {outbox}")
+    second.run("printf 'voucher,account,sum\\nX-1,hal,7\\n' | radacctd-sell --give-up 1")
     for it in (first, second):
         journal_has(it, "voucher X-1: one book took it and one refuses it")
     listed = second.run(commands[1])[1]

@@ -15,8 +15,8 @@ import unittest
 from unittest import mock
 
 from radacctl import configuration, debits, desk, files, keys, main, names, sales_log
-from radacctl import shards as books, stock
-from radacctl.commands import debit, key, redeem, sell, voucher
+from radacctl import shards as books, site, stock
+from radacctl.commands import allow, debit, guest, key, packages, redeem, sell, voucher
 from tool_tests import ROOT, Folder
 
 CONFIG = '''# A site.
@@ -133,6 +133,22 @@ class Debits(unittest.TestCase):
             self.assertRaises(stock.Fault, debits.Journal, path)
             journal.close()
             debits.Journal(path).close()
+
+
+class UsualDesk(unittest.TestCase):
+    def test_the_tools_of_a_pair_sell_in_both_books(self):
+        """By the outbox: a sale at a desk of a pair is in one book only."""
+        sales = (sell, []), (allow, ["x", "--month", "2026-12"]), (guest, ["list"])
+        sales += (packages, ["sell", "x"]), (packages, ["tick"])
+        for path, port in (("/nonexistent", 8066), (__file__, 8067)):
+            with mock.patch.object(site, "PAIR", path):
+                found = {it.parser().parse_args(words).port for it, words in sales}
+                self.assertEqual((found, desk.usual()), ({port}, ("127.0.0.1", port)))
+                code = ("from radacctl import site; site.PAIR = {!r}; from radacctl.commands import "
+                        "redeem; print(redeem.DESKS)".format(path))
+                said = subprocess.run(["python3", "-c", code], cwd=f"{ROOT}/etc",
+                                      capture_output=True, text=True).stdout
+                self.assertEqual(said, f"127.0.0.1:{port}\n")
 
 
 class Vouchers(unittest.TestCase):

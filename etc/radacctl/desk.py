@@ -7,7 +7,7 @@ import os
 import re
 import stat
 
-from radacctl import program
+from radacctl import program, site
 
 # The number of a voucher, and a key.
 NUMBER, TOKEN = re.compile("[A-Z0-9-]{1,32}"), re.compile("[A-Za-z0-9-]{16,64}")
@@ -15,6 +15,8 @@ TOKEN_RULE = "16 to 64 of A-Z a-z 0-9 and -"
 # An account as the desk takes it: plain characters, and % with two digits for any other octet.
 ACCOUNT = re.compile("(?:[ -$&-~]|%[0-9A-F]{2}){1,253}")
 CASHIER_KEY = "/etc/radacctd-cashier.key"
+# The desk of a machine, and the outbox of a pair, which gives each voucher to both books.
+HERE, OUTBOX = ("127.0.0.1", 8066), ("127.0.0.1", 8067)
 # What became of a voucher.
 NEW, REPEAT, DIFFERS, LIMIT, NO_KEY = "new", "repeat", "differs", "limit", "no key"
 # The book could not say, or a proxy before it; and what is no answer of a desk.
@@ -29,6 +31,11 @@ ANSWERS = {
 
 class WrongKey(program.Failed):
     """Why a file has no key that may be used. It has no octet of the file."""
+
+
+def usual():
+    """Where this machine sells unless it is told where."""
+    return OUTBOX if os.path.exists(site.PAIR) else HERE
 
 
 def place(text):

@@ -18,9 +18,9 @@ is written before the desk is connected.
 
 Its files are /var/lib/radacctd-vouchers/stock.csv, the logs of withdrawn codes, and
 /etc/radacctd-redeem.key, which has the key of a cashier and nothing else. RADACCTD_STOCK,
-RADACCTD_WITHDRAWN (the second log), RADACCTD_KEY and RADACCTD_DESKS name others. Of a pair
-RADACCTD_DESKS has both desks with a comma: a code is redeemed once both took it, the first one
-first. It stops at a desk that did not take it.
+RADACCTD_WITHDRAWN (the second log), RADACCTD_KEY and RADACCTD_DESKS name others. The desk is that
+of `radacctl sell`. If RADACCTD_DESKS has two with a comma, a code is redeemed once both took it,
+the first one first. It stops at a desk that did not take it.
 
 It ends with 0 if it wrote an answer. Standard error, which the journal has, says why it is 503, and
 has no code and no key.
@@ -42,7 +42,7 @@ SECOND = os.environ.get("RADACCTD_WITHDRAWN", stocks.SECOND)
 WITHDRAWN = [os.path.join(FOLDER, "withdrawn.csv"), SECOND]
 GIVEN = os.path.join(FOLDER, "given", "given.csv")
 KEY = os.environ.get("RADACCTD_KEY", site.REDEEM_KEY)
-DESKS = os.environ.get("RADACCTD_DESKS", "127.0.0.1:8066")
+DESKS = os.environ.get("RADACCTD_DESKS") or "{}:{}".format(*desks.usual())
 LARGEST_BODY = 1024
 # In seconds: for a connection, an answer, another request for the same code, and another run over
 # the stock. nginx waits for 20.

@@ -10,8 +10,9 @@ again after a pause, so a restart of the server is survived. Giving the same fil
 nothing twice.
 
 The key is that of a cashier. It stands alone in FILE, /etc/radacctd-cashier.key unless another is
-named, which only its owner may read. The desk is at 127.0.0.1, port 8066. N requests are in flight
-at most, 4 unless N is given. --dry-run tests the file, and sends nothing.
+named, which only its owner may read. The desk is at 127.0.0.1, port 8066; of a pair it is the
+outbox, port 8067, which sells in both books. N requests are in flight at most, 4 unless N is given.
+--dry-run tests the file, and sends nothing.
 
 An account that could not log in is refused, and so is what a spreadsheet made of a name. Standard
 error says why. BALANCES is the server's file of balances: an account in it is credited, whatever
@@ -343,8 +344,9 @@ def day(text):
 def add_desk(it, give_up):
     """The options of a sale."""
     program.options(it, "FILE", key_file=desks.CASHIER_KEY)
-    program.options(it, "A.B.C.D", host="127.0.0.1")
-    program.options(it, "PORT", port=8066)
+    host, port = desks.usual()
+    program.options(it, "A.B.C.D", host=host)
+    program.options(it, "PORT", port=port)
     program.options(it, "SECONDS", give_up=give_up)
 
 

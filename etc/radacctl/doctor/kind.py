@@ -7,7 +7,6 @@ import re
 from radacctl import site
 from radacctl.doctor import look
 
-PAIR = "/etc/default/radacctd-pair"
 TABLE = "/etc/radacctd-shards.csv"
 NGINX = "/etc/nginx/conf.d/radacctd.conf"
 CLERK = "/etc/systemd/system/sockets.target.wants/radacctd-clerk.socket"
@@ -67,7 +66,7 @@ class Kind:
         self.has_front = is_there(f"{site.RADDB}/radacctd", f"{site.RADDB}/sites-enabled/radacctd",
                                   "/etc/systemd/system/radacctd-mirror.service")
         self.has_pages = is_there(NGINX, "/etc/nginx/radacctd/cashier.conf")
-        self.has_pair = is_there(PAIR, f"{site.RADDB}/radacctd/pair.conf")
+        self.has_pair = is_there(site.PAIR, f"{site.RADDB}/radacctd/pair.conf")
         self.has_codes = is_there(site.REDEEM_KEY, REDEEM)
         self.has_clerk = is_there("/etc/radacctd-clerk/rights.toml", CLERK)
         self.has_packages = is_there(f"{site.RADDB}/mods-enabled/radacctd-packages",

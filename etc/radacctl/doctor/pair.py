@@ -8,7 +8,6 @@ from radacctl import desk
 from radacctl.doctor import look
 from radacctl.doctor.faults import Fault
 
-OUTBOX = ("127.0.0.1", 8067)
 # How long a voucher may wait for a desk, in seconds.
 LONGEST = 300
 # How long a comparison may go on, which waits for the other machine.
@@ -43,7 +42,7 @@ def compared():
 
 def outbox():
     try:
-        found = json.loads(desk.ask(OUTBOX, "GET", "/waiting", "", patience=5)[1])
+        found = json.loads(desk.ask(desk.OUTBOX, "GET", "/waiting", "", patience=5)[1])
         alarms, waiting, oldest = found["alarms"], found["waiting"], found["oldest"]
     except (OSError, http.client.HTTPException, ValueError, KeyError, TypeError) as fault:
         yield Fault("pair-waits", f"the outbox does not answer: {type(fault).__name__}",

@@ -17,7 +17,6 @@ UNITS = ("radacctd-outbox.service", "radacctd-compare.service", "radacctd-compar
 SYSTEMD = "/etc/systemd/system"
 # The one account that the proof of a set-up uses.
 TEST = b"radacctd-setup"
-TO_OUTBOX = "[Service]\nEnvironment=RADACCTD_DESKS=127.0.0.1:8067\n"
 
 
 def own(name):
@@ -28,7 +27,7 @@ def in_front(answers, config):
     """FreeRADIUS' part: reports go to both books."""
     # A book that has sold is not copied by a set-up.
     others = set(look.balances()) - {TEST}
-    if others and not files.text("/etc/default/radacctd-pair"):
+    if others and not files.text(site.PAIR):
         raise steps.Failed(f"the book has {len(others)} accounts already: make a pair of it by the "
                            "steps of PAIR.md, which copy the book")
     raddb = freeradius.path
@@ -40,7 +39,7 @@ def in_front(answers, config):
     yield Link(raddb("sites-enabled/radacctd-pair"), own("pair-server"))
     yield Folder(f"{site.RADACCT}/radacctd-other", 0o700, site.RADIUS_USER, site.RADIUS_USER)
     both = f"RADACCTD_OWN={answers.pair['own']}\nRADACCTD_OTHER={answers.pair['other']}\n"
-    yield File("/etc/default/radacctd-pair", both, 0o644)
+    yield File(site.PAIR, both, 0o644)
     for name in TOOLS:
         yield Link(f"/usr/local/sbin/{name}", own(name))
     for name in UNITS:
@@ -49,9 +48,6 @@ def in_front(answers, config):
     yield File(f"{SYSTEMD}/radacctd-state.socket", socket, 0o644)
     yield Folder(f"{SYSTEMD}/radacctd-mirror.service.d")
     yield Link(f"{SYSTEMD}/radacctd-mirror.service.d/pair.conf", own("mirror-of-pair.conf"))
-    if answers.has_codes:
-        yield Folder(f"{SYSTEMD}/radacctd-redeem.service.d")
-        yield File(f"{SYSTEMD}/radacctd-redeem.service.d/pair.conf", TO_OUTBOX, 0o644)
 
 
 def conf_of(old, answers, secret):
@@ -66,7 +62,7 @@ def after(answers, config):
     """What runs once FreeRADIUS does, and the answers for the other machine."""
     for name in ("radacctd-outbox.service", "radacctd-state.socket", "radacctd-compare.timer"):
         yield unit(name)
-    paths = [desk.CASHIER_KEY, "/etc/default/radacctd-pair", "/usr/local/sbin/radacctd-outbox",
+    paths = [desk.CASHIER_KEY, site.PAIR, "/usr/local/sbin/radacctd-outbox",
              f"{SYSTEMD}/radacctd-outbox.service"]
     yield Fresh("restart the outbox", "radacctd-outbox.service", paths)
     socket = "radacctd-state.socket"

@@ -9,9 +9,8 @@ import os
 import secrets
 import time
 
-from radacctl import files, freeradius, site
+from radacctl import desk, files, freeradius, site
 from radacctl.doctor import kind, look
-from radacctl.doctor.pair import OUTBOX
 from radacctl.setup import alone, front, steps
 
 ACCOUNT = front.TEST_USER
@@ -85,8 +84,7 @@ class Proof:
             "radacctl doctor"))
 
     def sell(self, total):
-        # In a pair the outbox gives a sale to both books.
-        host, port = OUTBOX if self.answers.pair else kind.Book().desk()
+        host, port = desk.OUTBOX if self.answers.pair else kind.Book().desk()
         words = (TOOL, "sell", "--host", host, "--port", str(port), "--give-up", "5")
         text = f"voucher,account,sum\n{number()},{ACCOUNT},{total}\n"
         sold = lambda: look.run(*words, text=text)
