@@ -181,7 +181,7 @@ class Lost(Asking):
         listed = box.must(f"find {name} /var/backups/radacctd -maxdepth 1 -printf '%m %u %f\\n'")
         others = [it for it in listed.splitlines() if not re.match(r"[67]00 root ", it)]
         check("the copy is for root alone", others, [])
-        wanted = ["book", "book-wal", "debits.csv", "radacctd.toml", "site.tar.gz"]
+        wanted = ["book", "book-wal", "debits.csv", "radacctd.toml", "site.tar.gz", "sizes"]
         check("and has all", sorted(box.must(f"ls {name}").split()), wanted)
         shutil.copytree(box.root + name, folder, dirs_exist_ok=True)
 

@@ -51,7 +51,7 @@ def nightly_rotation(site, nights):
     status, said = nights("2026-11-03 10:20:30", **keep)
     check("a second run on a day", (status, nights.copies()[-1]), (0, "2026-11-03.102030"))
     found = sorted(os.listdir(os.path.join(nights.backups, "2026-11-03")))
-    wanted = ["book", "book-wal", "debits.csv", "radacctd.toml", "site.tar.gz"]
+    wanted = ["book", "book-wal", "debits.csv", "radacctd.toml", "site.tar.gz", "sizes"]
     check("a copy has all that is needed", found, wanted)
     check("for its owner alone", rights_of(os.path.join(nights.backups, "2026-11-03"))[0], "0o700")
     back = Site(os.path.join(site.folder, "back"))

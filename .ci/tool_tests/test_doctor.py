@@ -698,6 +698,17 @@ class Unseen(unittest.TestCase):
         self.assertIn("2099-01-01", found["clock-wrong"])
         self.assertIn("2026-01-02", found["copy-old"])
 
+    def test_a_copy_that_lost_its_log(self):
+        with tempfile.TemporaryDirectory() as folder:
+            path = os.path.join(folder, "2026-01-02")
+            os.mkdir(path)
+            for name, text in (("book", "x"), ("sizes", "book 1\nbook-wal 5\n")):
+                with open(os.path.join(path, name), "w", encoding="ascii") as file:
+                    file.write(text)
+            found = [it.text for it in copies.newest(folder, "2026-01-02")]
+        self.assertIn(f"{path}/book-wal has not its 5 octets", found)
+        self.assertNotIn(f"{path}/book has not its 1 octets", found)
+
     def test_a_comparison_that_goes_on_has_no_result(self):
         going = "ActiveState=activating\nResult=success\nExecMainStatus=0\n"
         ended = "ActiveState=failed\nResult=exit-code\nExecMainStatus=1\n"

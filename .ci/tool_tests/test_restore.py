@@ -80,6 +80,20 @@ class Restore(unittest.TestCase):
         self.assertEqual((status, book), (1, "now"), said)
         self.assertEqual(self.restored("--unsound", "killed.part")[::2], (0, "killed.part"))
 
+    def test_a_copy_that_lost_a_file_on_its_way(self):
+        """Without its log it is an older book, whose balances are right."""
+        self.write("2026-11-26/sizes", "book 10\nbook-wal 3\n")
+        for log in (None, "l", "logs"):
+            if log:
+                self.write("2026-11-26/book-wal", log)
+            status, said, book = self.restored("2026-11-26")
+            self.assertEqual((status, book), (1, "now"), said)
+            self.assertIn("2026-11-26 lacks book-wal 3 octets: take another copy", said)
+        self.write("2026-11-26/book-wal", "log")
+        self.assertEqual(self.restored("2026-11-26")[::2], (0, "2026-11-26"))
+        self.write("2026-11-26/book-wal", "")
+        self.assertEqual(self.restored("--unsound", "2026-11-26")[::2], (0, "2026-11-26"))
+
     def test_a_copy_with_wrong_balances(self):
         self.write("fault", "db: Unbalanced\n")
         status, said, book = self.restored("2026-11-26")
@@ -170,6 +184,8 @@ class Backup(Folder):
 
     def test_a_book_that_nobody_has(self):
         self.assertEqual(self.copied(":"), (0, "copied; no server had the book\n"))
+        with open(f"{self.folder}/copy/sizes", encoding="ascii") as file:
+            self.assertEqual(file.read(), "book 12\nbook-wal 12\n")
 
     def test_two_to_one_folder(self):
         """The second would remove what the first has, which may then take its half for a copy."""
@@ -178,12 +194,12 @@ class Backup(Folder):
         status, said = self.copied(f"{second} || echo it ended with $? >&2")
         self.assertEqual((status, said.splitlines()[-1]), (0, "it ended with 1"), said)
         self.assertIn("another backup makes", said)
-        self.assertEqual(sorted(os.listdir(f"{folder}/copy")), ["book", "book-wal"])
+        self.assertEqual(sorted(os.listdir(f"{folder}/copy")), ["book", "book-wal", "sizes"])
 
     def test_what_a_killed_one_left_goes(self):
         os.makedirs(os.path.join(self.folder, "copy.part/look"))
         self.assertEqual(self.copied(":")[0], 0)
-        self.assertEqual(sorted(os.listdir(f"{self.folder}/copy")), ["book", "book-wal"])
+        self.assertEqual(sorted(os.listdir(f"{self.folder}/copy")), ["book", "book-wal", "sizes"])
 
     def installed(self, **tools):
         """A backup with some tools of the test's."""

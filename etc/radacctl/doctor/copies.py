@@ -4,7 +4,7 @@ import os
 import re
 import time
 
-from radacctl import freeradius, site
+from radacctl import files, freeradius, site
 from radacctl.doctor import look
 from radacctl.doctor.faults import Fault
 
@@ -66,6 +66,10 @@ def newest(folder, name):
     for part in ("book", "radacctd.toml", "site.tar.gz"):
         if not os.path.exists(f"{path}/{part}"):
             yield Fault("copy-bad", f"{path} has no {part}", NOW)
+    for name, size in map(str.split, files.text(f"{path}/sizes").splitlines()):
+        status = look.status_of(f"{path}/{name}")
+        if status is None or str(status.st_size) != size:
+            yield Fault("copy-bad", f"{path}/{name} has not its {size} octets", NOW)
     if os.path.exists(f"{path}/site.tar.gz"):
         status, said = look.run(f"{site.SBIN}/radacctl", "site", "test", f"{path}/site.tar.gz",
                                 seconds=1800)
