@@ -227,6 +227,18 @@ def nightly(site):
     check("each is in one book", said, f"{own} vouchers; faults 0\n")
 
 
+def exchanged(site):
+    """A table in which two books, here or at the other machine, have each other's ports."""
+    for one, two in (("18133", "18134"), ("8112", "8113")):
+        site.one.must(f"sed 's/,{one}/,x/; s/,{two}/,{one}/; s/,x/,{two}/' /etc/radacctd-shards.csv "
+                      "> /root/exchanged.csv")
+        places = "ls /var/lib/radacctd-balances/s?-place.csv | wc -l"
+        waits_for("each book says where it is", lambda: site.one.run(places)[1].strip(), "16", 30)
+        status, said = site.one.run("radacctd-shards --table /root/exchanged.csv freeradius")
+        check(f"a table with {one} and {two} exchanged is refused",
+              (status, "the table has" in said and "home_server" not in said), (1, True))
+
+
 def moved(site):
     """"Move a book": s7 moves to the second machine, while a report waits for it."""
     lines = {at: text.replace("10.0.0.7", ADDRESSES[1]) for at, text in
@@ -293,5 +305,5 @@ def follow():
         freeradius(one)
         nginx(one)
         site = Site(machines)
-        for step in (sells, reports, checked, nightly, moved, doctored):
+        for step in (sells, reports, checked, nightly, exchanged, moved, doctored):
             step(site)

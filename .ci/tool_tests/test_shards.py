@@ -12,7 +12,7 @@ import time
 import unittest
 from unittest import mock
 
-from radacctl import desk, files, freeradius, shards as books, site
+from radacctl import desk, files, freeradius, main, shards as books, site
 from radacctl.commands import shards
 from radacctl.doctor import book, copies, front, kind
 from tool_tests import Folder, ROOT
@@ -276,6 +276,30 @@ class Doctor(unittest.TestCase):
     def write(self, path, text):
         with open(path, "w", encoding="ascii") as file:
             file.write(text)
+
+    def test_a_table_that_leads_to_another_books_server_is_refused(self):
+        """With two ports exchanged each of two books would be charged the other one's reports."""
+        exchanged = TABLE.replace("s3,127.0.0.1,18133,8103", "s3,127.0.0.1,18134,8103")
+        exchanged = exchanged.replace("s4,127.0.0.1,18134,8104", "s4,127.0.0.1,18133,8104")
+        cases = (
+            (TABLE, 0), (exchanged, 1), (TABLE.replace("s7,127.0.0.1", "s7,10.0.0.7"), 0),
+            (TABLE.replace(",8103", ",x").replace(",8104", ",8103").replace(",x", ",8104"), 1),
+            (TABLE.replace("18133", "28133"), 0),
+        )
+        with tempfile.TemporaryDirectory() as folder:
+            for at, it in enumerate(books.SHARDS[1:], 1):
+                self.write(f"{folder}/{it}-place.csv", f"127.0.0.1,{18130 + at},{8100 + at}\n")
+            for text, wanted in cases:
+                self.write(f"{folder}/table.csv", text)
+                words = ["--table", f"{folder}/table.csv", "--balances", folder]
+                for act in (["freeradius"], ["nginx"], ["sell", "--dry-run"], ["defaults", "s3"]):
+                    with contextlib.redirect_stdout(io.StringIO()), \
+                            contextlib.redirect_stderr(io.StringIO()) as said, \
+                            mock.patch("sys.stdin", io.TextIOWrapper(io.BytesIO(b""))):
+                        with contextlib.suppress(SystemExit):
+                            main.run(shards, [*words, *act])
+                    is_refused = "the table has" in said.getvalue()
+                    self.assertEqual(is_refused, bool(wanted) and act[0] != "defaults", (text, act))
 
     def test_each_book_has_its_copies(self):
         with tempfile.TemporaryDirectory() as folder, contextlib.ExitStack() as stack:

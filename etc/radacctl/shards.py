@@ -46,6 +46,24 @@ def table_of(path):
     return {shard: found[shard] for shard in SHARDS}
 
 
+def test_places(table, folder):
+    """Refuses a table that leads to another book's server, as one with two ports exchanged: reports
+    and sales would go to wrong books. Each server's unit writes where it is before the server runs.
+    """
+    known = {}
+    for shard in SHARDS:
+        # Who may not read balances sells all the same.
+        with contextlib.suppress(OSError):
+            place = files.text(os.path.join(folder, f"{shard}-place.csv")).strip()
+            address, *ports = place.split(",")
+            known |= {(address, it): shard for it in zip(HEADER[2:], ports)}
+    for shard, it in table.items():
+        for port in HEADER[2:]:
+            other = known.get((it["address"], (port, str(it[port]))), shard)
+            if other != shard:
+                raise Wrong(f"the table has {it[port]} ({port}) for {shard}, where {other} is")
+
+
 def shard_of(account):
     """The book of an account, as FreeRADIUS' policy radacctd_shard finds it."""
     if account.count(b"\\") > 1:

@@ -285,9 +285,13 @@ ACTS["each"] = run_each
 ACTS |= dict.fromkeys(("for", "debit", "key"), run_for)
 ACTS |= dict.fromkeys(("defaults", "freeradius", "nginx"), show_settings)
 WITHOUT_TABLE = ("of", "join", "check")
+# What prepares a server, or only prints a name.
+BEFORE_SERVERS = ("on", "each", "defaults")
 
 
 def main(words):
     words = parsed(words)
     table = None if words.act in WITHOUT_TABLE else books.table_of(words.table)
+    if table and words.act not in BEFORE_SERVERS:
+        books.test_places(table, words.balances)
     return ACTS[words.act](words, table)
