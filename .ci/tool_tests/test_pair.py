@@ -196,6 +196,22 @@ class Pair(unittest.TestCase):
             self.assertEqual(one.take(sale, None), (outbox.TAKEN, True))
         self.assertEqual(said[1:], ["the desk `own` is back"])
 
+    def test_a_long_list_of_overruns_is_no_half_answer(self):
+        """The desk would count as away, and sales be kept for it."""
+        found = {"overruns": [{"account": f"{at:050}", "overrun": at} for at in range(20_000)]}
+        body = json.dumps(found).encode()
+        with socket.create_server(("127.0.0.1", 0)) as server:
+            def answer():
+                opened, _ = server.accept()
+                with opened:
+                    opened.recv(4096)
+                    opened.sendall(b"HTTP/1.1 200 OK\r\nContent-Length: %d\r\n\r\n" % len(body))
+                    opened.sendall(body)
+            threading.Thread(target=answer, daemon=True).start()
+            one = outbox.Desk("own", server.getsockname(), "key")
+            self.assertEqual(outbox.Outbox(None, [one], None).overruns(), (200, found))
+        self.assertGreater(len(body), 1 << 20)
+
     def test_no_option_is_cut_short(self):
         for tool, words in ((COMPARE, ["--print", "--quie"]), (OUTBOX, ["--lis"]),
                             (MIRROR, ["a", "b", "c", "--stat=d"])):

@@ -17,8 +17,8 @@ DESKS = ("own", "other")
 # In seconds: how long a desk has for a connection and for an answer, how long one that gave none is
 # left alone, and the pause between two rounds of what waits.
 CONNECT, PATIENCE, AWAY, PAUSE = 3, 8, 2, 1
-# How many vouchers are sent in one round.
-ROUND = 500
+# How many vouchers are sent in one round, and how long a list of overruns may be, in octets.
+ROUND, LONGEST_LIST = 500, 1 << 28
 # The states of a voucher at a desk: never sent, sent without an answer, taken, and refused.
 NEW, SENT, TAKEN, DIFFERS, LIMIT = "new", "sent", "taken", "differs", "limit"
 WAITS = {desk: f"{desk} IN ('{NEW}', '{SENT}')" for desk in DESKS}
@@ -159,7 +159,7 @@ class Desk:
 
     def overruns(self):
         """Who is overdrawn, or None."""
-        status, said = self.ask(desks.ask, "GET", "/overruns", self.key)
+        status, said = self.ask(desks.ask, "GET", "/overruns", self.key, most=LONGEST_LIST)
         found = desks.object_of(said) if status == 200 else None
         if found is not None:
             self.back()
