@@ -144,9 +144,9 @@ class UsualDesk(unittest.TestCase):
             with mock.patch.object(site, "PAIR", path):
                 found = {it.parser().parse_args(words).port for it, words in sales}
                 self.assertEqual((found, desk.usual()), ({port}, ("127.0.0.1", port)))
-                code = ("from radacctl import site; site.PAIR = {!r}; from radacctl.commands import "
-                        "redeem; print(redeem.DESKS)".format(path))
-                said = subprocess.run(["python3", "-c", code], cwd=f"{ROOT}/etc",
+                code = (f"from radacctl import site; site.PAIR = {path!r}; "
+                        "from radacctl.commands import redeem; print(redeem.DESKS)")
+                said = subprocess.run(["python3", "-Bc", code], cwd=f"{ROOT}/etc",
                                       capture_output=True, text=True).stdout
                 self.assertEqual(said, f"127.0.0.1:{port}\n")
 
@@ -425,6 +425,23 @@ class Redeem(Folder):
             with self.assertRaises(redeem.Away) as found:
                 it.credit(where, 5)
         self.assertRegex(str(found.exception), "given.csv: Input/output error")
+
+
+    def test_no_request_says_where_key_stock_and_desk_are(self):
+        """fcgiwrap hands each variable of a request on, but for those that the unit has."""
+        path = f"{ROOT}/etc/nginx/radacctd-redeem.service"
+        found = dict(it.split("=") for line in files.text(path).splitlines()
+                     for it in line.removeprefix("Environment=").split()
+                     if line.startswith("Environment="))
+        code = files.text(redeem.__file__).removeprefix(f'"""{redeem.__doc__}"""')
+        read = re.findall(r"RADACCTD_[A-Z]+", code)
+        self.assertEqual((set(found), set(found.values())), (set(read), {""}))
+        words = ["python3", "-Bc", "from radacctl.commands import redeem as it; "
+                 "print(it.STOCK, it.SECOND, it.KEY, it.DESKS)"]
+        said = [subprocess.run(words, cwd=f"{ROOT}/etc", env=env, capture_output=True).stdout
+                for env in ({"PATH": os.environ["PATH"]}, found | {"PATH": os.environ["PATH"]})]
+        self.assertEqual(*said)
+        self.assertIn(site.REDEEM_KEY.encode(), said[0])
 
 
 class Shards(unittest.TestCase):

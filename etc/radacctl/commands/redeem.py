@@ -36,12 +36,13 @@ from radacctl import desk as desks
 from radacctl import names, program, site
 from radacctl import stock as stocks
 
-STOCK = os.environ.get("RADACCTD_STOCK", f"{stocks.FOLDER}/stock.csv")
+# The unit has each of these, if only as an empty one: so no request to fcgiwrap says another.
+STOCK = os.environ.get("RADACCTD_STOCK") or f"{stocks.FOLDER}/stock.csv"
 FOLDER = os.path.dirname(os.path.abspath(STOCK))
-SECOND = os.environ.get("RADACCTD_WITHDRAWN", stocks.SECOND)
+SECOND = os.environ.get("RADACCTD_WITHDRAWN") or stocks.SECOND
 WITHDRAWN = [os.path.join(FOLDER, "withdrawn.csv"), SECOND]
 GIVEN = os.path.join(FOLDER, "given", "given.csv")
-KEY = os.environ.get("RADACCTD_KEY", site.REDEEM_KEY)
+KEY = os.environ.get("RADACCTD_KEY") or site.REDEEM_KEY
 DESKS = os.environ.get("RADACCTD_DESKS") or "{}:{}".format(*desks.usual())
 LARGEST_BODY = 1024
 # In seconds: for a connection, an answer, another request for the same code, and another run over
