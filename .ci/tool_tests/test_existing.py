@@ -105,6 +105,27 @@ class Existing(Folder):
         self.put("clients.conf", found)
         self.assertEqual(front.with_lines(found, "clients.conf", wanted), found)
 
+    def test_a_client_of_a_virtual_server_is_seen(self):
+        """Else it would get another secret, and its server would not know what radacctd reads."""
+        own = "client spot {\n\tipaddr = 10.0.7.1\n\tsecret = of-the-spot\n}\n"
+        text = SERVER.replace("authorize", own + "authorize")
+        self.put("sites-available/eduroam", text)
+        path = os.path.join(self.folder, "sites-enabled/eduroam")
+        os.remove(path)
+        os.symlink("../sites-available/eduroam", path)
+        wanted = self.wanted({"name": "spot", "address": "10.0.7.1", "vendor": "aruba"})
+        self.assertEqual(front.secret_of("spot", "10.0.7.1"), "of-the-spot")
+        self.assertNotIn("client spot ", front.clients(None, wanted))
+        config = mock.Mock(clients={"freeradius": {"secret": "s" * 16}})
+        place = os.path.realpath(path)
+        for step in [it for it in front.parts(wanted, config) if it.path == place]:
+            step.do()
+        found = self.read(place).decode()
+        lines = "\tradacctd_quota = none\n\tradacctd_cut = yes\n\tradacctd_stamp = name\n}\n"
+        self.assertIn(f"secret = of-the-spot\n{lines}authorize", found)
+        self.assertIn("accounting {\n\tradacctd_accounting\n", found)
+        self.assertTrue(os.path.islink(path))
+
     def test_a_secret_is_read_as_freeradius_does(self):
         """In marks of either kind, in which nothing is a comment, or in none."""
         one = {"name": "wlc", "address": "10.0.0.1", "vendor": "aruba"}

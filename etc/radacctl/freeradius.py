@@ -258,9 +258,12 @@ def network(name, block):
 
 
 def other_clients():
-    """The site's own clients: file, name, addresses and text of each."""
+    """The site's own clients: file, name, addresses and text of each. A virtual server may have
+    some of its own.
+    """
+    places = [*included(), *(f"sites-enabled/{it}" for it in serving("auth", "acct"))]
     return [(file, name, network(name, block), block)
-            for file in included() for name, block in blocks("client", text(file))]
+            for file in dict.fromkeys(places) for name, block in blocks("client", text(file))]
 
 
 def client_at(address):

@@ -112,7 +112,8 @@ def parts(answers, config):
                    lambda old: clients(old, answers, books, config.clients))
     placed = (freeradius.client_at(it["address"]) for it in answers.access_servers)
     for name in sorted({it[0] for it in placed if it}):
-        yield File(raddb(name), lambda old, name=name: with_lines(old, name, answers))
+        path = place_of(name) if name.startswith("sites-enabled/") else raddb(name)
+        yield File(path, lambda old, name=name: with_lines(old, name, answers))
     kept = files.sample("freeradius", "kept")
     yield of_group(raddb("radacctd", "kept"), lambda old: kept if old is None else old)
     yield File(raddb("radiusd.conf"), lambda old: main(old, answers))
@@ -151,7 +152,7 @@ def tunnels():
 
 def place_of(name):
     """The file of a virtual server: what its name in sites-enabled leads to."""
-    path = freeradius.path("sites-enabled", name)
+    path = freeradius.path("sites-enabled", os.path.basename(name))
     if not os.path.lexists(path):
         return freeradius.path("sites-available", name)
     found = os.path.realpath(path)
