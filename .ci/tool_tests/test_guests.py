@@ -652,6 +652,20 @@ class Allow(unittest.TestCase):
         self.assertEqual(self.allow("--lapse"), 0)
         self.assertEqual(self.balance(), {b"al": 570, "ü 1".encode(): 630, b"bo": 695})
 
+    def test_what_a_guest_bought_between_two_runs_is_not_taken_without_a_word(self):
+        """Of a sum of somebody else's nobody knows whether it came before an answer was lost. The
+        month's sum stays.
+        """
+        self.allow()
+        os.remove(self.site.path("notes.csv"))
+        self.site.answers = ["go", "lost"]
+        for bought, told in ((0, 0), (100, 1), (0, 0)):
+            self.before[b"al"] += bought
+            with contextlib.redirect_stderr(io.StringIO()) as said:
+                self.allow("--lapse", "--give-up", "9")
+            self.assertGreaterEqual(self.balance()[b"al"], 500)
+            self.assertEqual(said.getvalue().count("`al`: it seems"), told)
+
     def test_balances_of_before_say_of_nobody_what_is_left(self):
         """What was used since would be taken a second time."""
         moments = iter(range(10_000))

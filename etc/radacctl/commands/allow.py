@@ -120,11 +120,14 @@ class Allowing:
             elif found not in ("new", "repeat"):
                 self.faults.append(f"`{names.shown(row.account)}`: {found}")
             if self.books and found in ("new", "repeat"):
-                self.take(row)
+                self.take(row, found == "new")
 
-    def take(self, row):
+    def take(self, row, is_new):
         given = self.books.journal.given(row.lapse)
         left = int(given[1]) if given else self.notes.least[row.number]
+        if left > 0 and not is_new and not given:
+            say(f"`{names.shown(row.account)}`: it seems that an earlier run credited it, so "
+                f"{left} units that it had before are taken. What it bought since sell it again")
         if left > 0:
             try:
                 self.books.take(row.account, left, row.lapse)
