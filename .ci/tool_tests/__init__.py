@@ -31,5 +31,7 @@ class Folder(unittest.TestCase):
     def setUp(self):
         folder = tempfile.TemporaryDirectory()
         self.addCleanup(folder.cleanup)
+        # Commands of tests before this one may have shut what is made.
+        self.addCleanup(os.umask, os.umask(0o022))
         self.folder = os.path.realpath(folder.name)
         self.path = os.path.join(self.folder, "file")
