@@ -151,7 +151,7 @@ def plants(box):
 
 
 def shut_in(box):
-    for unit in (PAGE, WORK, "radacctd-doctor.service"):
+    for unit in (PAGE, WORK, "radacctd-faults.service"):
         text = box.run(f"systemd-analyze security --no-pager {unit}")[1]
         found = re.search(r"Overall exposure level for \S+: ([0-9.]+)", text)
         print(f"         exposure of {unit} {found and found[1]}")

@@ -74,7 +74,7 @@ home_server lobby {
             names_of = [it["name"] for it in found["lines"]]
             self.assertEqual(names_of, ["copy-old", ""] if wanted else [])
             self.assertEqual(told.call_count, state != "activating")
-        told.assert_called_with("systemctl", "restart", "--no-block", "radacctd-doctor.service")
+        told.assert_called_with("systemctl", "restart", "--no-block", "radacctd-faults.service")
         unseen = mock.Mock(side_effect=lists.look.Unseen("no systemd"))
         with mock.patch.object(lists.look, "properties", unseen):
             self.assertEqual(self.ask("anna", {"act": "doctor"}), (503, {"error": "away"}))

@@ -29,8 +29,6 @@ EXCEPTIONS = {
     # A group reads what it writes.
     "radacctd-compare.service": {"UMask"},
     "radacctd-shards.service": {"UMask"},
-    "radacctd-doctor.service": ROOTS | {"ProtectProc"},
-    # The doctor, too.
     "radacctd-faults.service": ROOTS | {"ProtectProc"},
     "radacctd-forward.service": ROOTS,
     # Everybody reads the counts. FreeRADIUS has the same user: what it shares is not to be removed.

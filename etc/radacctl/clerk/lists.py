@@ -15,7 +15,7 @@ from radacctl.doctor import look
 
 MOST = 10_000
 # The unit of the doctor, what it said as it looked the last time, and one of its lines.
-DOCTOR, SAID = "radacctd-doctor.service", "/run/radacctd-doctor"
+DOCTOR, SAID = "radacctd-faults.service", "/run/radacctd-doctor"
 FOUND = re.compile(r"(critical|warning) ([a-z0-9-]+): (.+)\. Do: (.+)")
 
 
