@@ -25,7 +25,7 @@ RIGHTS = 'guests = ["anna"]\ncorrections = ["bert"]\noperators = ["bert"]\nguest
 FIELD = ("-H", "Radacctd: desk")
 LETTERS = "ACDEFHJKMNPQRTUWXY34679"
 PAGE = """#!/bin/sh
-RADACCTD_CLERK_WORK={folder}/work.socket exec {root}/etc/clerk-page
+RADACCTD_CLERK_WORK={folder}/work.socket exec {folder}/clerk-page
 """
 
 
@@ -48,7 +48,8 @@ class Site:
         self.proxy.settings({}, clerk=True)
         front.written(os.path.join(folder, "clerk.toml"), RIGHTS.format(guests))
         script = os.path.join(self.proxy.folder, "clerk")
-        front.written(script, PAGE.format(folder=folder, root=ROOT))
+        front.written(script, PAGE.format(folder=folder))
+        os.symlink(f"{ROOT}/etc/tools/radacctl", f"{folder}/clerk-page")
         os.chmod(script, 0o755)
         self.processes = []
 

@@ -25,6 +25,13 @@ def script(*path):
     return module
 
 
+def called(folder, name):
+    """The program by another name: a link in a folder."""
+    path = os.path.join(folder, name)
+    os.symlink(os.path.join(ROOT, "etc", "tools", "radacctl"), path)
+    return path
+
+
 class Folder(unittest.TestCase):
     """Each test has a folder of its own, and the path of a file in it."""
 

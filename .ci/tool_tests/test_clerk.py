@@ -17,7 +17,7 @@ from radacctl.clerk import forms, journal, rights, work
 from radacctl.commands import allow, guest, packages as sold, report
 from radacctl.doctor import web as doctor
 from radacctl.setup import answers, clerk as steps_of_clerk, steps, web
-from tool_tests import ROOT
+from tool_tests import ROOT, called
 from tool_tests.test_guests import Site, failing
 from tool_tests.test_packages import Books
 
@@ -531,11 +531,11 @@ class Answers(Desk):
     def test_the_answer_has_an_end_while_others_have_the_connection(self):
         """As systemd has, which started it: what is done behind the answer is not waited for."""
         ours, its = socket.socketpair()
-        with ours, its:
+        with ours, its, tempfile.TemporaryDirectory() as folder:
             ours.settimeout(30)
             ours.sendall(b"anna\n{}\n")
             ours.shutdown(socket.SHUT_WR)
-            words = [os.path.join(ROOT, "etc", "clerk-work")]
+            words = [called(folder, "clerk-work")]
             process = subprocess.Popen(words, stdin=its, stdout=its, stderr=subprocess.DEVNULL)
             said = b""
             while more := ours.recv(4096):
@@ -637,7 +637,7 @@ class Page(unittest.TestCase):
                 env = {it.encode(): value.encode() for it, value in env.items()}
                 if who is not None:
                     env[b"RADACCTD_CASHIER"] = who
-                done = subprocess.run([os.path.join(ROOT, "etc", "clerk-page")], input=body,
+                done = subprocess.run([called(folder, "clerk-page")], input=body,
                                       capture_output=True, env=env)
                 # It ends the wait for a request that was refused, and never comes.
                 with socket.socket(socket.AF_UNIX) as waker:

@@ -26,6 +26,8 @@ COMMANDS = {
     "pages": ("makes the folder that the pages read", "radacctd-pages"),
     "shards": ("works with 16 books", "radacctd-shards"),
 }
+# What nginx and systemd start for the front desk's page, by links of these names.
+PARTS = {"clerk-page": "radacctl.clerk.page", "clerk-work": "radacctl.clerk.work"}
 # These are programs of their own.
 SCRIPTS = {"night": "radacctd-nightly"}
 HELP = """\
@@ -61,7 +63,11 @@ def command_of(called, words):
 
 def main(path):
     """Runs what the command line says. `path` is that of the program."""
-    command, words = command_of(os.path.basename(sys.argv[0]), sys.argv[1:])
+    called = os.path.basename(sys.argv[0])
+    if called in PARTS:
+        program.NAME = called
+        return importlib.import_module(PARTS[called]).main()
+    command, words = command_of(called, sys.argv[1:])
     if command in SCRIPTS:
         script = os.path.join(os.path.dirname(os.path.realpath(path)), SCRIPTS[command])
         os.execv(script, [script, *words])

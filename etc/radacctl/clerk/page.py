@@ -73,7 +73,6 @@ def handed_on(who, octets):
 
 
 def main():
-    program.NAME = "clerk-page"
     try:
         status, body = handed_on(cashier(), request())
     except Refused as found:

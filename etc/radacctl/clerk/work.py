@@ -356,7 +356,6 @@ def hang_up():
 
 def main():
     os.umask(0o077)
-    program.NAME = "clerk-work"
     # What a command prints is for a terminal: here it would get into the answer.
     out = os.dup(1)
     os.dup2(os.open(os.devnull, os.O_WRONLY), 1)
