@@ -4,7 +4,7 @@ import os
 import time
 
 from radacctl import files, names, sheets, site, stock
-from radacctl.program import fail
+from radacctl.program import fail, told
 
 # What the codes of a sheet give and cost: root's, since FreeRADIUS' user writes the database.
 LOG, LOG_HEADER = f"{site.BOOKS}/sheets.csv", b"moment,sheet,package,credit,price\n"
@@ -64,7 +64,5 @@ def await_balances(moment, path=None):
 
 def known_accounts():
     """The accounts of the book: a number that was sold once is never made again."""
-    try:
+    with told(fail, "", OSError, ValueError, after=": is radacctd running?"):
         return {names.shown(it) for it in names.balances()}
-    except (OSError, ValueError) as why:
-        return fail(f"{why}: is radacctd running?")

@@ -9,7 +9,7 @@ import time
 import tomllib
 
 from radacctl import files, keys, site
-from radacctl.program import fail
+from radacctl.program import fail, told
 
 # What follows the name of the configuration in the name of a file that is to take its place. A run
 # that was killed may leave one: the next run makes it anew.
@@ -54,7 +54,7 @@ def locked(path, ending=LOCK, patience=PATIENCE, fault=""):
 def open_lock(path):
     """Opens the file of a lock, which no other user may open: else that user could hold it."""
     way = os.O_RDWR | os.O_CREAT | os.O_NOFOLLOW | os.O_NONBLOCK
-    try:
+    with told(fail, f"cannot lock {path}: ", after="; be root"):
         while True:
             file = os.fdopen(os.open(path, way, 0o600), "wb")
             status = os.fstat(file.fileno())
@@ -63,8 +63,6 @@ def open_lock(path):
                 return file
             file.close()
             os.remove(path)
-    except OSError as fault:
-        return fail(f"cannot lock {path}: {fault.strerror}; be root")
 
 
 def copy_rights(handle, path):

@@ -97,12 +97,9 @@ def ask(where, method, path, key, body=None, patience=30, connect=None, most=1 <
 
 def secret_in(path, may_read=lambda status: False):
     """The octets of a file that only its owner may read, unless `may_read` says so."""
-    try:
-        with open(path, "rb") as file:
-            found = os.fstat(file.fileno())
-            octets = file.read(65_536)
-    except OSError as fault:
-        raise WrongKey(f"cannot read {path}: {fault.strerror}") from None
+    with program.told(WrongKey, f"cannot read {path}: "), open(path, "rb") as file:
+        found = os.fstat(file.fileno())
+        octets = file.read(65_536)
     is_open = stat.S_IMODE(found.st_mode) & 0o077 or found.st_uid not in (0, os.getuid())
     if is_open and not may_read(found):
         raise WrongKey(f"others may read {path}, or it is another user's: chmod 600 {path}")

@@ -11,7 +11,7 @@ import re
 import tomllib
 
 from radacctl import stock
-from radacctl.program import fail
+from radacctl.program import fail, told
 
 MOST_KEYS = 4096
 # The line above a key that this tool made.
@@ -31,11 +31,8 @@ def text_of(octets, path):
 
 
 def read(path):
-    try:
-        with open(path, "rb") as file:
-            return text_of(file.read(), path)
-    except OSError as fault:
-        return fail(f"cannot read {path}: {fault.strerror}; be root")
+    with told(fail, f"cannot read {path}: ", after="; be root"), open(path, "rb") as file:
+        return text_of(file.read(), path)
 
 
 def config_of(text, path):

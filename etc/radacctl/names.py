@@ -139,14 +139,12 @@ def records_in(path, columns, one, marks=","):
     """What `one` makes of each record of a CSV file of a person's, which it gets by column, or the
     ValueError that says why not. Nothing is taken of a file of which a part is wrong.
     """
-    try:
+    with program.told(WrongFile, f"cannot read {path}: ", OSError, csv.Error):
         with open(path, encoding="utf-8-sig", errors="surrogateescape", newline="") as file:
             text = file.read()
         mark = next((it for it in marks if it in text.partition("\n")[0]), ",")
         header, *rows = [it for it in csv.reader(io.StringIO(text, newline=""), delimiter=mark)
                          if it] or [[]]
-    except (OSError, csv.Error) as why:
-        raise WrongFile(f"cannot read {path}: {getattr(why, 'strerror', None) or why}") from None
     if any(header.count(it) != 1 for it in columns):
         raise WrongFile(f"the header of {path} is `{','.join(header)[:200]}`, and is to have "
                         f"{','.join(columns)}, each once")

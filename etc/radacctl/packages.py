@@ -206,10 +206,8 @@ def dictionary(folder=DICTIONARIES):
 
 def packages_of(text, money):
     """The packages of a text, by their names."""
-    try:
+    with program.told(Wrong, "it is no TOML: ", tomllib.TOMLDecodeError):
         found = tomllib.loads(text)
-    except tomllib.TOMLDecodeError as why:
-        raise Wrong(f"it is no TOML: {why}") from None
     need(set(found) <= {"package", "wifi"} and isinstance(found.get("package", []), list),
          "it has [[package]], [wifi] and nothing else")
     wifi_of(found)
@@ -254,13 +252,11 @@ def for_pages(known, now, plans=None):
 def read(path=FILE, settings=moneys.SETTINGS):
     """The packages of the site, and its money."""
     money = moneys.of_site(settings)
-    try:
+    with program.told(Wrong, f"cannot read {path}: ", OSError, UnicodeDecodeError):
         with open(path, encoding="utf-8") as file:
-            return packages_of(file.read(), money), money
-    except (OSError, UnicodeDecodeError) as why:
-        raise Wrong(f"cannot read {path}: {getattr(why, 'strerror', None) or why}") from None
-    except Wrong as why:
-        raise Wrong(f"{path}: {why}") from None
+            text = file.read()
+    with program.told(Wrong, f"{path}: ", Wrong):
+        return packages_of(text, money), money
 
 
 def write_for_pages(path=PAGES):

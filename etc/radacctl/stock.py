@@ -70,10 +70,6 @@ def code_of(text):
     return "-".join(code[at : at + GROUP] for at in range(0, len(code), GROUP))
 
 
-def fault_of(act, path, fault):
-    return Fault(f"cannot {act} {path}: {fault.strerror}")
-
-
 def whole_lines(path, header, may_be_old=False):
     """The whole lines of a file of ours, behind its header; none if there is no file.
 
@@ -145,10 +141,8 @@ def locked(path, patience=PATIENCE, way=os.O_RDONLY | os.O_DIRECTORY):
     """A file or a folder that one run has at a time, as that of the stock: to change what is in it,
     or to give a code.
     """
-    try:
+    with program.told(Fault, f"cannot open {path}: "):
         handle = os.open(path, way | os.O_CLOEXEC, 0o600)
-    except OSError as fault:
-        raise fault_of("open", path, fault) from None
     try:
         wait_for(handle, path, patience)
         yield
@@ -174,10 +168,8 @@ class Log:
     def __init__(self, path, header):
         self.path, self.header = path, header
         way = os.O_RDWR | os.O_APPEND | os.O_CREAT | os.O_NOFOLLOW | os.O_CLOEXEC
-        try:
+        with program.told(Fault, f"cannot write {path}: "):
             self.handle = os.open(path, way, 0o600)
-        except OSError as fault:
-            raise fault_of("write", path, fault) from None
 
     def text(self):
         """The whole lines, header and all."""
@@ -215,7 +207,7 @@ class Log:
         except OSError as fault:
             with contextlib.suppress(OSError):
                 os.ftruncate(self.handle, whole)
-            raise fault_of("write", self.path, fault) from None
+            raise Fault(f"cannot write {self.path}: {fault.strerror}") from None
 
     def write(self, octets):
         if os.write(self.handle, octets) != len(octets):

@@ -19,10 +19,8 @@ class Wrong(program.Failed):
 
 def rights_of(text):
     """The names and the limits of a text."""
-    try:
+    with program.told(Wrong, "it is no TOML: ", tomllib.TOMLDecodeError):
         found = tomllib.loads(text)
-    except tomllib.TOMLDecodeError as why:
-        raise Wrong(f"it is no TOML: {why}") from None
     for name, value in found.items():
         if name in (GUESTS, CORRECTIONS, OPERATORS):
             is_right = isinstance(value, list) and all(isinstance(it, str) and it for it in value)
@@ -36,9 +34,7 @@ def rights_of(text):
 def read(path=None):
     """The same of the site's file."""
     path = path or FILE
-    try:
-        return rights_of(files.text(path))
-    except Wrong as why:
-        raise Wrong(f"{path}: {why}") from None
-    except OSError as why:
-        raise Wrong(str(why)) from None
+    with program.told(Wrong, ""):
+        text = files.text(path)
+    with program.told(Wrong, f"{path}: ", Wrong):
+        return rights_of(text)

@@ -38,7 +38,7 @@ import tomllib
 
 from radacctl import configuration, files, keys, plans, program, server_log, site
 from radacctl.plans import shown
-from radacctl.program import fail, say
+from radacctl.program import fail, say, told
 
 LINE = re.compile(r"(?m)^(config: read again: .*|.*; the old one stays)$")
 # A start of the server reads so many octets of its book in a second, or more.
@@ -174,10 +174,8 @@ class Edit:
 
     def put(self, path, octets):
         """Puts a file into place with the rights of the configuration, on the disk."""
-        try:
+        with told(fail, f"cannot write {path}: ", after=f"; your copy is {self.copy}"):
             files.replace(path, octets, rights=self.give)
-        except OSError as why:
-            fail(f"cannot write {path}: {why.strerror}; your copy is {self.copy}")
 
     def clean_up(self):
         # A signal may have ended it before a file had its name.
@@ -375,7 +373,5 @@ def main(words):
         edit = Edit(words)
         try:
             return edit.run()
-        except OSError as why:
-            return fail(f"{why.filename or words.config}: {why.strerror or why}")
         finally:
             edit.clean_up()

@@ -49,13 +49,10 @@ STYLE = {"title": "Your allowance", "margin": 8, "letters": 12, "wide": 90, "cod
 
 def card(words, account, token, until):
     """The text of the card."""
-    try:
-        url = cards.address(words.url)
-        if not url:
-            fail("a card needs the address of the guest's page: --url https://accounts.example.org")
-        code = cards.svg(f"{url}/#k={token}")
-    except cards.Fault as why:
-        fail(why)
+    url = cards.address(words.url)
+    if not url:
+        fail("a card needs the address of the guest's page: --url https://accounts.example.org")
+    code = cards.svg(f"{url}/#k={token}")
     until = f"<br>until / bis {until:%Y-%m-%d %H:%M}" if until else ""
     body = CARD.format(name=html.escape(cards.house()), code=code, url=html.escape(url),
                        token=token, account=html.escape(account), until=until)
@@ -85,11 +82,8 @@ def new(words):
     if words.days is not None:
         until = (now + datetime.timedelta(days=words.days)).replace(hour=12, minute=0)
     token = keys.new_token(words.prefix)
-    try:
-        if words.card:
-            files.make_named(words.card, card(words, account, token, until).encode())
-    except OSError as why:
-        fail(why)
+    if words.card:
+        files.make_named(words.card, card(words, account, token, until).encode())
     try:
         changed = configuration.change(words.config, decide)
     except BaseException:

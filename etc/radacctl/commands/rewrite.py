@@ -67,10 +67,8 @@ class Rewrite:
 
     def begin(self):
         """Tests what is there."""
-        try:
+        with program.told(rows.Refused, f"{self.book}: "):
             status = os.stat(self.book)
-        except OSError as fault:
-            raise rows.Refused(f"{self.book}: {fault.strerror}") from None
         if not stat.S_ISREG(status.st_mode):
             raise rows.Refused(f"{self.book} is no file")
         if os.geteuid() != status.st_uid:

@@ -59,11 +59,9 @@ Row = collections.namedtuple("Row", "code sum sheet")
 
 def settings_of(path):
     """The settings of the pages."""
-    try:
+    what = f"cannot read {path}, which has the money: "
+    with program.told(fail, what, after="; give radacctl pages"):
         return moneys.settings_in(path)
-    except OSError as fault:
-        return fail(f"cannot read {path}, which has the money: {fault.strerror}; "
-                    "give radacctl pages")
 
 
 def confirm(words, question):
@@ -201,10 +199,8 @@ def codes_in(path):
             raise ValueError("it has no code")
         return code
 
-    try:
+    with program.told(fail, "", names.WrongFile, after="\nNothing was withdrawn"):
         return set(names.records_in(path, ["code"], one, ";,"))
-    except names.WrongFile as why:
-        return fail(f"{why}\nNothing was withdrawn")
 
 
 def named(stock, what):

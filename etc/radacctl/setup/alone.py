@@ -11,6 +11,7 @@ import tomllib
 
 from radacctl import configuration, desk, files, freeradius, names, plans, site
 from radacctl.doctor import copies, look, machine
+from radacctl.program import told
 from radacctl.setup import steps
 from radacctl.setup.steps import Command, File, Folder, Fresh, Step
 
@@ -38,10 +39,8 @@ class Config:
     def __init__(self, answers):
         self.answers = answers
         self.text = files.text(site.CONFIG)
-        try:
+        with told(steps.Failed, f"{site.CONFIG} is wrong: ", tomllib.TOMLDecodeError):
             self.found = tomllib.loads(self.text.replace("\r\n", "\n"))
-        except tomllib.TOMLDecodeError as why:
-            raise steps.Failed(f"{site.CONFIG} is wrong: {why}") from None
         self.more, self.pair_secret = [], secrets.token_hex(16)
         try:
             self.clients = {it.get("name"): it for it in self.found.get("client", [])}

@@ -4,6 +4,7 @@ import json
 import os
 
 from radacctl.clerk import rights
+from radacctl.program import told
 from radacctl.setup import steps
 from radacctl.setup.alone import File, Folder, unit, user
 
@@ -32,9 +33,7 @@ def of(answers):
 
 def file_of(old, clerks):
     """The file with these names, and the limits that it had."""
-    try:
+    with told(steps.Failed, f"{rights.FILE}: ", rights.Wrong):
         had = rights.rights_of(old or "")
-    except rights.Wrong as why:
-        raise steps.Failed(f"{rights.FILE}: {why}") from None
     lines = [f"{name} = {json.dumps(found, ensure_ascii=False)}" for name, found in clerks.items()]
     return HEAD + "\n".join([*lines, *(f"{it} = {had[it]}" for it in rights.LIMITS), ""])
