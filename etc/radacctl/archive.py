@@ -17,8 +17,8 @@ import tempfile
 import time
 import zlib
 
-from radacctl import program
 from radacctl.files import FOLDER, opened_folder as opened, regular
+from radacctl.program import Failed
 
 SUMMARY = "radacctd-site.json"
 # What a later version adds 1 to, if this one could not restore its archives.
@@ -26,12 +26,8 @@ FORMAT = 1
 CHUNK, TRIES, QUIET = 1 << 20, 100, 0.1  # octets, runs, seconds
 
 
-class Wrong(program.Failed):
-    """Why not all was done."""
-
-
 # What a damaged archive, a full disk or a strange folder raises.
-FAULTS = (Wrong, OSError, sqlite3.Error, tarfile.TarError, zlib.error, EOFError, ValueError,
+FAULTS = (Failed, OSError, sqlite3.Error, tarfile.TarError, zlib.error, EOFError, ValueError,
           KeyError, OverflowError, RecursionError)
 
 
@@ -85,7 +81,7 @@ def quiet_database(folder, name):
             read = {it: content_of(folder, it) for it in before}
             if marks_of(folder, name) == before:
                 return *whole_database(name, read), read[name][1]
-    raise Wrong(f"{name} was written all the while: try again")
+    raise Failed(f"{name} was written all the while: try again")
 
 
 def whole_database(name, read):
@@ -112,7 +108,7 @@ def whole_database(name, read):
         if said != [("ok",)]:
             return read[name][0], ".damaged"
         if os.listdir(folder) != [name]:
-            raise Wrong(f"what the log of {name} has cannot be put into it")
+            raise Failed(f"what the log of {name} has cannot be put into it")
         with open(path, "rb") as file:
             return file.read(), ""
 
@@ -222,9 +218,9 @@ def test_archive(path):
         while tar.fileobj.read(CHUNK):
             pass
     if summary is not None and summary.get("format", FORMAT) > FORMAT:
-        raise Wrong(f"{path} is of a newer version of radacctd: install that one")
+        raise Failed(f"{path} is of a newer version of radacctd: install that one")
     if summary is None or found != summary["digests"]:
-        raise Wrong(f"{path} is damaged: it is cut, or a file has another digest")
+        raise Failed(f"{path} is damaged: it is cut, or a file has another digest")
     return summary
 
 
@@ -232,7 +228,7 @@ def test_head(path, it):
     """Ends if a member of an archive is none that `save` writes."""
     is_known = it.isreg() or it.isdir() or it.issym()
     if not is_known or not {"", ".", ".."}.isdisjoint(it.name.split("/")):
-        raise Wrong(f"{path} has {ascii(it.name)}, which `save` did not write")
+        raise Failed(f"{path} has {ascii(it.name)}, which `save` did not write")
 
 
 def digest_of(file):

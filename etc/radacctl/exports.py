@@ -10,7 +10,8 @@ import re
 import time
 import zlib
 
-from radacctl import names, program
+from radacctl import names
+from radacctl.program import Failed
 
 DATED = re.compile(r"\d{4}-\d{2}-\d{2}(\.\d{6})?")
 COLUMNS = {
@@ -19,10 +20,6 @@ COLUMNS = {
     "balances": names.BALANCES,
     "topups": ["voucher", "account", "sum", "when"],
 }
-
-
-class Broken(program.Failed):
-    """Why there is no report."""
 
 
 class Snapshot:
@@ -52,14 +49,14 @@ def rows_in(path, what):
         with opened(path, "rt", encoding="ascii", newline="") as file:
             reader = csv.DictReader(file)
             if reader.fieldnames != COLUMNS[what]:
-                raise Broken(f"{path} is no export of {what}")
+                raise Failed(f"{path} is no export of {what}")
             for row in reader:
                 # A field too many has no name, and one that lacks no text.
                 if None in row or None in row.values():
-                    raise Broken(f"{path} is cut, or damaged, at line {reader.line_num}")
+                    raise Failed(f"{path} is cut, or damaged, at line {reader.line_num}")
                 yield row
     except (OSError, EOFError, zlib.error, UnicodeDecodeError, csv.Error) as fault:
-        raise Broken(f"cannot read {path}: {fault}") from None
+        raise Failed(f"cannot read {path}: {fault}") from None
 
 
 class Beginning:
@@ -112,7 +109,7 @@ def ordered(rows, key_of, at):
     for row in rows:
         key = key_of(row)
         if last is not None and key <= last:
-            raise Broken(f"an export is not in order at {row}")
+            raise Failed(f"an export is not in order at {row}")
         last = key
         yield key, at, row
 
@@ -130,7 +127,7 @@ def snapshots_of(folder):
         names = sorted(name for name in os.listdir(folder) if DATED.fullmatch(name))
         return [Snapshot(folder, name) for name in names]
     except (OSError, ValueError) as fault:
-        raise Broken(f"cannot read the exports: {fault}") from None
+        raise Failed(f"cannot read the exports: {fault}") from None
 
 
 def snapshot_at(snapshots, date):
@@ -145,7 +142,7 @@ def span_of(snapshots, begin, end):
     first, last = snapshot_at(snapshots, begin), snapshot_at(snapshots, end)
     if last is None or last.date < begin:
         why = f"there are no two exports to compare, of {begin} and {end} or before"
-        raise Broken(f"{why}, nor one of this time")
+        raise Failed(f"{why}, nor one of this time")
     if first is None or first.name == last.name:
         first = Beginning(last, begin)
     return first, last

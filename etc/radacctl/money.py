@@ -24,8 +24,9 @@ def sum_of(text):
 
 def settings_in(path=SETTINGS):
     """The settings of the pages, each of its kind."""
-    with open(path, encoding="utf-8") as file, program.told(Wrong, f"{path} is no JSON: ", ValueError):
-        found = json.load(file)
+    with open(path, encoding="utf-8") as file:
+        with program.told(Wrong, f"{path} is no JSON: ", ValueError):
+            found = json.load(file)
     if not isinstance(found, dict):
         raise Wrong(f"{path} is no object of settings")
     decimals = found.setdefault("decimals", 0)

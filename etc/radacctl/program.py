@@ -3,6 +3,7 @@
 import argparse
 import contextlib
 import os
+import signal
 import sys
 
 # As the caller spelled it, `radacctl sell`, or an older name.
@@ -26,6 +27,26 @@ def told(kind, before, *faults, after=""):
         yield
     except faults or OSError as why:
         raise kind(f"{before}{getattr(why, 'strerror', None) or why}{after}") from None
+
+
+class Late(Exception):
+    """What was ended since it took too long."""
+
+
+@contextlib.contextmanager
+def within(seconds):
+    """Ends what goes on for longer: a disk or a desk that gives an octet now and then, say."""
+
+    def ended(*_):
+        raise Late(f"it took more than {seconds} seconds")
+
+    before = signal.signal(signal.SIGALRM, ended)
+    signal.alarm(seconds)
+    try:
+        yield
+    finally:
+        signal.alarm(0)
+        signal.signal(signal.SIGALRM, before)
 
 
 def reason(fault):

@@ -11,7 +11,7 @@ import stat
 import tarfile
 import time
 
-from radacctl import archive
+from radacctl import archive, program
 from radacctl.files import FOLDER, opened_folder as opened, regular
 
 
@@ -39,7 +39,7 @@ class Restoring:
                     lacks.add(name)
         if lacks:
             names = ", ".join(sorted(lacks))
-            raise archive.Wrong(f"this machine has no user or group {names}: nothing was changed")
+            raise program.Failed(f"this machine has no user or group {names}: nothing was changed")
 
     def owner(self, it):
         """The numbers of its owner and group here. systemd owns its private folders anew."""

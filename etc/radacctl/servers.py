@@ -4,10 +4,10 @@ import contextlib
 import os
 import pwd
 import re
-import socket
 import time
 
-from radacctl import site
+from radacctl import program, site
+from radacctl.desk import ask
 from radacctl.program import say
 
 
@@ -62,21 +62,11 @@ def desks_of(path):
 
 
 def is_known(desk, token):
-    """Whether a desk knows a key; None if it doesn't say so in 3 seconds, which http.client knows for
-    each read only.
-    """
-    end, said = time.monotonic() + 3, b""
-    asks = f"GET /me/balance HTTP/1.1\r\nHost: {desk[0]}\r\nDesk-Key: {token}\r\n\r\n"
+    """Whether a desk knows a key; None if it doesn't say so in 3 seconds."""
     try:
-        with socket.create_connection((desk[0], int(desk[1])), 3) as caller:
-            caller.sendall(asks.encode("ascii"))
-            while b"\r\n" not in said:
-                caller.settimeout(max(0.001, end - time.monotonic()))
-                if not (more := caller.recv(4096)) or time.monotonic() > end:
-                    return None
-                said += more
-        return re.match(rb"HTTP/1\.[01] ([0-9]{3}) ", said)[1] != b"401"
-    except (OSError, ValueError, TypeError):
+        with program.within(3):
+            return ask((desk[0], int(desk[1])), "GET", "/me/balance", token)[0] != 401
+    except (OSError, ValueError, program.Late):
         return None
 
 

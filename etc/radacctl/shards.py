@@ -20,10 +20,6 @@ TABLE = "/etc/radacctd-shards.csv"
 OLD = 60
 
 
-class Wrong(program.Failed):
-    """Why nothing was done, or not all."""
-
-
 def place_of(row):
     """The values of a record of the table, each within its bounds."""
     ipaddress.IPv4Address(row["address"])
@@ -39,10 +35,10 @@ def table_of(path):
     found = {it["shard"]: it for it in places}
     if sorted(it["shard"] for it in places) != SHARDS:
         lacks = ", ".join(sorted(set(SHARDS) - set(found))) or "none"
-        raise Wrong(f"{path} is to have each book once: it has {len(places)}, and lacks {lacks}")
+        raise program.Failed(f"{path} is to have each book once: it has {len(places)}, and lacks {lacks}")
     for port in ("radius", "desk"):
         if len({(it["address"], it[port]) for it in found.values()}) < len(SHARDS):
-            raise Wrong(f"{path}: two books have one address and port ({port})")
+            raise program.Failed(f"{path}: two books have one address and port ({port})")
     return {shard: found[shard] for shard in SHARDS}
 
 

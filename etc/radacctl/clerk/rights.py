@@ -5,16 +5,13 @@ whose members docs/CLERK.md has. Each change counts at once. Without it nobody m
 import tomllib
 
 from radacctl import files, program
+from radacctl.money import Wrong
 
 FILE = "/etc/radacctd-clerk/rights.toml"
 GUESTS, CORRECTIONS, OPERATORS = "guests", "corrections", "operators"
 LIMITS = {"guests_an_hour": 60, "ends_an_hour": 300, "corrections_an_hour": 20,
           "cuts_an_hour": 60}
 MOST = 10_000
-
-
-class Wrong(program.Failed):
-    """What is wrong with the file."""
 
 
 def rights_of(text):

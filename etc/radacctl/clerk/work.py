@@ -33,7 +33,7 @@ CHECK, LONGEST_LIST = "check-", 1 << 26
 # What is answered in the place of a result, by the fault: what an operator is to mend is told apart.
 FAULTS = (
     (guest.NoKey, 409, "no key"), (sold.NoPackage, 404, "no such package"),
-    ((rights.Wrong, packages.Wrong, debits.Refused), 503, "setup"), (Exception, 503, "away"),
+    ((packages.Wrong, debits.Refused), 503, "setup"), (Exception, 503, "away"),
 )  # fmt: skip
 
 

@@ -18,10 +18,8 @@ could not look at all of it, which it says.
 """
 
 import collections
-import contextlib
 import os
 import re
-import signal
 import time
 
 from radacctl import files, program
@@ -56,32 +54,12 @@ FIRST = "first what the line book-away says; stop and restart nothing before"
 LONGEST, LONGEST_COPIES = 300, 3600
 
 
-class Late(Exception):
-    """A side that did not let the doctor go on."""
-
-
-@contextlib.contextmanager
-def within(seconds):
-    """Ends what goes on for longer: a disk or a desk that gives an octet now and then, say."""
-
-    def ended(*_):
-        raise Late(f"it took more than {seconds} seconds")
-
-    before = signal.signal(signal.SIGALRM, ended)
-    signal.alarm(seconds)
-    try:
-        yield
-    finally:
-        signal.alarm(0)
-        signal.signal(signal.SIGALRM, before)
-
-
 def found_in(site):
     """The faults of each side, and the sides that could not be looked at, with the reason."""
     found, lost = [], []
     for name, side in SIDES.items():
         try:
-            with within(LONGEST_COPIES if side is copies else LONGEST):
+            with program.within(LONGEST_COPIES if side is copies else LONGEST):
                 for fault in side.look_at(site):
                     found.append(fault)
         except Exception as why:  # noqa: BLE001

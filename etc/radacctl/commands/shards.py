@@ -110,7 +110,7 @@ def run_each(words, table):
     """Runs the command for each book at an address."""
     worst = 0
     if not words.option:
-        raise books.Wrong("give a command")
+        raise program.Failed("give a command")
     for place in table.values():
         if place["address"] == words.address:
             begin_command(place)
@@ -129,12 +129,10 @@ def run_for(words, table):
     }[words.act]
     command = filled(command, place)
     if not command:
-        raise books.Wrong("give a command")
+        raise program.Failed("give a command")
     begin_command(place)
-    try:
+    with program.told(program.Failed, f"{command[0]}: "):
         os.execvp(command[0], [*command, *more])
-    except OSError as fault:
-        raise books.Wrong(f"{command[0]}: {fault.strerror}") from None
 
 
 def show_settings(words, table):

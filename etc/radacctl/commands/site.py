@@ -104,10 +104,10 @@ def also():
     for path in os.environ.get("RADACCTD_ALSO", "").split():
         path = os.path.normpath(path)
         if not path.startswith("/"):
-            raise archive.Wrong(f"RADACCTD_ALSO: {path} is no path from the root")
+            raise program.Failed(f"RADACCTD_ALSO: {path} is no path from the root")
         others = [*PLACES, EMPTY, f"{site.SBIN}/radacctd", "/root/", "/home/"]
         if path.count("/") < 2 or any(it.startswith(f"{path}/") for it in others):
-            raise archive.Wrong(f"RADACCTD_ALSO: {path} has more in it than a site's: name what "
+            raise program.Failed(f"RADACCTD_ALSO: {path} has more in it than a site's: name what "
                                 "you need")
         yield path
 
@@ -196,7 +196,7 @@ def save(words):
     made.end({**summary, "empty": made.add_empty(EMPTY)})
     tested = archive.test_archive(part)
     if tested["digests"] != made.digests:
-        raise archive.Wrong(f"{part} is not what was written: its disk fails")
+        raise program.Failed(f"{part} is not what was written: its disk fails")
     for it in (it for it in sorted(made.names) if it.endswith(".db.damaged")):
         say(f"a database is damaged: this copy has it as /{it}, and an older one may have it whole")
     os.rename(part, words.file)
