@@ -37,9 +37,9 @@ def sync_folder(path):
         os.close(handle)
 
 
-def remove(path):
+def remove(path, folder=None):
     with contextlib.suppress(FileNotFoundError):
-        os.remove(path)
+        os.remove(path, dir_fd=folder)
 
 
 def give(handle, mode, group):
@@ -88,13 +88,14 @@ def open_lock(path):
     return os.open(path, os.O_RDWR | os.O_CREAT | os.O_NOFOLLOW | os.O_CLOEXEC, 0o600)
 
 
-def make(path, octets, mode=0o600, rights=None):
+def make(path, octets, mode=0o600, rights=None, folder=None):
     """Makes a file with a content, on the disk, and never over another one. A half one is removed.
 
     It has a mode before its content; or further rights, which a function gives it. The folder's
-    caller syncs it.
+    caller syncs it, who may have it open.
     """
-    handle = os.open(path, os.O_CREAT | os.O_EXCL | os.O_WRONLY | os.O_NOFOLLOW, 0o600)
+    way = os.O_CREAT | os.O_EXCL | os.O_WRONLY | os.O_NOFOLLOW
+    handle = os.open(path, way, 0o600, dir_fd=folder)
     try:
         with os.fdopen(handle, "wb") as file:
             rights(handle) if rights else os.fchmod(handle, mode)
@@ -102,7 +103,7 @@ def make(path, octets, mode=0o600, rights=None):
             file.flush()
             os.fsync(file.fileno())
     except OSError:
-        remove(path)
+        remove(path, folder)
         raise
 
 
@@ -123,15 +124,23 @@ def make_named(path, octets):
 
 def replace(path, octets, mode=0o600, rights=None):
     """Puts a file into place, whole and on the disk; what was there stays until then."""
-    new = path + NEW
-    remove(new)
-    make(new, octets, mode, rights)
-    try:
-        os.rename(new, path)
-    except OSError:
-        remove(new)
-        raise
+    replace_in(None, path, NEW, octets, mode, rights)
     sync_folder(os.path.dirname(path))
+
+
+def replace_in(folder, name, ending, octets, mode=0o600, rights=None, before=lambda: None):
+    """The same in a folder that is open, by another name with an ending until it is whole. The
+    caller syncs the folder.
+    """
+    new = name + ending
+    remove(new, folder)
+    make(new, octets, mode, rights, folder)
+    try:
+        before()
+        os.rename(new, name, src_dir_fd=folder, dst_dir_fd=folder)
+    except OSError:
+        remove(new, folder)
+        raise
 
 
 def publish(path, text, *, mode=0o640, moment=None):

@@ -24,6 +24,8 @@ from radacctl.doctor import look, machine
 # Lines that have a secret are not printed: one that is named so, or a line that is nothing else.
 SECRET = re.compile(r"secret|token|password|Desk-Key|^[+-]\s*key\s*=|^[+-][A-Za-z0-9-]{16,}$", re.I)
 MOST_LINES = 12
+# What follows the name of a file in that of one which is to take its place: no program reads it.
+NEW = "~setup-new"
 TRIAL = "/run/radacctd-trial"
 # Of each unit which of its starts has read which files. A boot starts all, and empties the folder.
 MARKS = "/run/radacctd-setup"
@@ -162,24 +164,13 @@ class File:
 
     def write(self, folder, name, octets, rights, is_kept=False):
         """Puts a new file into place. What was there is kept once the new one is whole."""
-        part = f"{name}~setup-new"
-        try:
-            with contextlib.suppress(FileNotFoundError):
-                os.remove(part, dir_fd=folder)
-            way = os.O_WRONLY | os.O_CREAT | os.O_EXCL | os.O_NOFOLLOW
-            with os.fdopen(os.open(part, way, 0o600, dir_fd=folder), "wb") as file:
-                os.fchown(file.fileno(), *rights[:2])
-                os.fchmod(file.fileno(), rights[2])
-                file.write(octets)
-                file.flush()
-                os.fsync(file.fileno())
-            if is_kept:
-                keep(folder, name)
-            os.rename(part, name, src_dir_fd=folder, dst_dir_fd=folder)
-        except OSError as why:
-            with contextlib.suppress(OSError):
-                os.remove(part, dir_fd=folder)
-            raise Failed(f"cannot write {self.path}: {why.strerror or why}") from None
+        def give(handle):
+            os.fchown(handle, *rights[:2])
+            os.fchmod(handle, rights[2])
+
+        before = (lambda: keep(folder, name)) if is_kept else lambda: None
+        with program.told(Failed, f"cannot write {self.path}: "):
+            files.replace_in(folder, name, NEW, octets, rights=give, before=before)
 
 
 def keep(folder, name):
@@ -210,11 +201,9 @@ class Link:
             with contextlib.suppress(FileNotFoundError):
                 if stat.S_ISREG(os.stat(name, dir_fd=folder, follow_symlinks=False).st_mode):
                     keep(folder, name)
-            part = f"{name}~setup-new"
-            with contextlib.suppress(FileNotFoundError):
-                os.remove(part, dir_fd=folder)
-            os.symlink(self.target, part, dir_fd=folder)
-            os.rename(part, name, src_dir_fd=folder, dst_dir_fd=folder)
+            files.remove(name + NEW, folder)
+            os.symlink(self.target, name + NEW, dir_fd=folder)
+            os.rename(name + NEW, name, src_dir_fd=folder, dst_dir_fd=folder)
 
 
 class Command(Step):
