@@ -3,15 +3,14 @@
 import csv
 import datetime
 import gzip
-import heapq
-import itertools
 import os
 import re
+import sqlite3
 import time
 import zlib
 
 from radacctl import names
-from radacctl.program import Failed
+from radacctl.program import Failed, told
 
 DATED = re.compile(r"\d{4}-\d{2}-\d{2}(\.\d{6})?")
 COLUMNS = {
@@ -20,6 +19,19 @@ COLUMNS = {
     "balances": names.BALANCES,
     "topups": ["voucher", "account", "sum", "when"],
 }
+# The columns that are no numbers, and what each row has for itself.
+TEXTS = ("client", "session", "account", "class", "state", "calling", "framed", "voucher")
+KEYS = {"sessions": "PRIMARY KEY (client, session)", "balances": "PRIMARY KEY (account)",
+        "topups": "PRIMARY KEY (voucher)"}
+# What the book had before a moment: the rows that are older; the balances are their sums.
+REMAINS = (
+    "INSERT INTO sessions0 SELECT * FROM sessions1 WHERE last < ?",
+    'INSERT INTO topups0 SELECT * FROM topups1 WHERE "when" < ?',
+    """INSERT INTO balances0 SELECT account, sum(moved), 0 FROM (
+        SELECT account, balance AS moved FROM balances1
+        UNION ALL SELECT account, charged FROM sessions1 WHERE last >= ?
+        UNION ALL SELECT account, -"sum" FROM topups1 WHERE "when" >= ?) GROUP BY account""",
+)
 
 
 class Snapshot:
@@ -62,64 +74,30 @@ def rows_in(path, what):
 class Beginning:
     """What the book had as a day began, as far as a later export says it."""
 
-    def __init__(self, later, date):
-        self.later, self.date, self.name = later, date, None
-        self.begin = time.mktime(date.timetuple())
+    def __init__(self, date):
+        self.date, self.begin = date, time.mktime(date.timetuple())
 
     def moment(self):
         return f"{self.date} 00:00:00 (reckoned from the later export)"
 
-    def rows(self, what):
-        """The rows that are older than the day; the balances are their sums."""
-        if what == "balances":
-            yield from self.balances()
-            return
-        column = {"sessions": "last", "topups": "when"}[what]
-        for row in self.later.rows(what):
-            if int(row[column]) < self.begin:
-                yield row
 
-    def balances(self):
-        found = {row["account"]: int(row["balance"]) for row in self.later.rows("balances")}
-        for what, column, sign in (("sessions", "charged", 1), ("topups", "sum", -1)):
-            for row in self.later.rows(what):
-                is_newer = int(row["last" if sign == 1 else "when"]) >= self.begin
-                found[row["account"]] += sign * int(row[column]) * is_newer
-        for account, balance in found.items():
-            yield {"account": account, "balance": balance}
-
-
-def key_of_session(row):
-    # The client's name is written as it is.
-    return row["client"].encode(), names.octets_of(row["session"])
-
-
-def is_line(row):
-    """Whether this is a line of sessions that were carried forward. No client has such a name."""
-    return row["client"].startswith("(")
-
-
-def key_of_voucher(row):
-    return row["voucher"].encode()
-
-
-def ordered(rows, key_of, at):
-    """The rows, which an export has in order, with their keys and the number of the export."""
-    last = None
-    for row in rows:
-        key = key_of(row)
-        if last is not None and key <= last:
-            raise Failed(f"an export is not in order at {row}")
-        last = key
-        yield key, at, row
-
-
-def paired(old, new, key_of):
-    """Each row of either export with the one of the same key in the other, or None."""
-    both = heapq.merge(ordered(old, key_of, 0), ordered(new, key_of, 1), key=lambda it: it[0])
-    for _, found in itertools.groupby(both, lambda it: it[0]):
-        rows = {at: row for _, at, row in found}
-        yield rows.get(0), rows.get(1)
+def tables_of(first, last):
+    """A database with both exports: sessions0, balances0 and topups0 of the first one, and with 1
+    those of the last one. It is on the disk if it is large, and gone once it is closed.
+    """
+    opened = sqlite3.connect("")
+    for what, columns in COLUMNS.items():
+        kinds = ", ".join(f'"{it}" {"TEXT" if it in TEXTS else "INTEGER"}' for it in columns)
+        for at, snapshot in enumerate((first, last)):
+            opened.execute(f"CREATE TABLE {what}{at} ({kinds}, {KEYS[what]}) STRICT, WITHOUT ROWID")
+            if isinstance(snapshot, Snapshot):
+                insert = f"INSERT INTO {what}{at} VALUES ({', '.join('?' * len(columns))})"
+                with told(Failed, f"{snapshot.folder}: {what} are damaged: ", sqlite3.Error):
+                    opened.executemany(insert, (tuple(it.values()) for it in snapshot.rows(what)))
+    if isinstance(first, Beginning):
+        for text in REMAINS:
+            opened.execute(text, (first.begin,) * text.count("?"))
+    return opened
 
 
 def snapshots_of(folder):
@@ -144,5 +122,5 @@ def span_of(snapshots, begin, end):
         why = f"there are no two exports to compare, of {begin} and {end} or before"
         raise Failed(f"{why}, nor one of this time")
     if first is None or first.name == last.name:
-        first = Beginning(last, begin)
+        first = Beginning(begin)
     return first, last

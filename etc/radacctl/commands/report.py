@@ -35,7 +35,6 @@ It ends with 0 if the balances moved by just what the sessions and vouchers say,
 did not, or the exports are too few or broken, and with 2 for a bad command line.
 """
 
-import collections
 import csv
 import datetime
 import os
@@ -44,7 +43,6 @@ from radacctl import money as moneys
 from radacctl import exports, names, program, sales_log, site, stock
 from radacctl.clerk import journal
 from radacctl.commands import guest
-
 
 SOLD = ["vouchers", "sum"]
 USAGE = ["account", "class", "sessions", "input", "output", "charged"]
@@ -76,94 +74,98 @@ def cashiers_of_guests():
             for it in lines if it.act == "guest"}
 
 
+# What moved of each session of the last export; the sessions that it lacks, and the vouchers that
+# only one of both has.
+VIEWS = """
+CREATE TEMP TABLE moved AS SELECT n.account, n.class, o.client IS NULL AS is_new,
+    n.state <> 'open' AND coalesce(o.state, 'open') = 'open' AS has_ended,
+    iif(n.client LIKE '(%', 'line', iif(is_debit(n.class), 'debit', 'use')) AS kind,
+    n.input - coalesce(o.input, 0) AS input, n.output - coalesce(o.output, 0) AS output,
+    n.charged - coalesce(o.charged, 0) AS charged
+    FROM sessions1 n LEFT JOIN sessions0 o USING (client, session);
+CREATE TEMP TABLE lost AS SELECT * FROM sessions0 o WHERE NOT EXISTS (
+    SELECT 1 FROM sessions1 n WHERE (n.client, n.session) = (o.client, o.session));
+CREATE TEMP VIEW sold AS SELECT * FROM topups1 WHERE voucher NOT IN (SELECT voucher FROM topups0);
+CREATE TEMP VIEW unsold AS SELECT * FROM topups0 WHERE voucher NOT IN (SELECT voucher FROM topups1);
+"""
+SUMS = "count(*), sum(input), sum(output), sum(charged) FROM moved WHERE kind = 'use' AND (is_new"
+SUMS += " OR input <> 0 OR output <> 0 OR charged <> 0)"
+# The rows of each table, in the order of its columns. Those who used most octets are first.
+ROWS = {
+    "usage": f"SELECT account, class, {SUMS} GROUP BY 1, 2 ORDER BY -sum(input + output), 1, 2",
+    "plans": f"SELECT class, {SUMS} GROUP BY 1",
+    "vouchers": 'SELECT prefix_of(voucher), count(*), sum("sum") FROM sold GROUP BY 1',
+    "cashiers": 'SELECT cashier_of(voucher), count(*), sum("sum") FROM sold GROUP BY 1',
+    "balances": """
+        SELECT account, sum(iif(kind = 'before', moved, 0)), sum(iif(kind = 'sold', moved, 0)),
+        sum(iif(kind = 'use', moved, 0)), sum(iif(kind = 'debit', moved, 0)),
+        sum(iif(kind = 'gone', moved, iif(kind = 'line', -moved, 0))),
+        sum(iif(kind = 'after', moved, 0)) FROM (
+            SELECT account, 'before' AS kind, balance AS moved FROM balances0
+            UNION ALL SELECT account, 'after', balance FROM balances1
+            UNION ALL SELECT account, kind, charged FROM moved
+            UNION ALL SELECT account, 'gone', charged FROM lost
+            UNION ALL SELECT account, 'sold', "sum" FROM sold
+            UNION ALL SELECT account, 'gone', -"sum" FROM unsold) GROUP BY 1""",
+}
+
+
 class Report:
     """What happened between two exports."""
 
     def __init__(self, first, last, debit_class, cashiers):
-        self.first, self.last, self.debit_class = first, last, debit_class
-        self.cashiers = cashiers
-        # Sums by the columns of their tables: of accounts, of accounts and Classes, of Classes, of
-        # what stands before the first hyphen of a voucher's number, and of cashiers.
-        self.accounts, self.usage, self.plans, self.prefixes, self.sold_by = (
-            collections.defaultdict(collections.Counter) for _ in range(5))
-        # Of each account how many sessions are gone, and how many lines have grown.
-        self.gone_sessions, self.lines = collections.Counter(), collections.Counter()
-        self.counts = collections.Counter()
-        for what, key_of, add in (("sessions", exports.key_of_session, self.add_session),
-                                  ("topups", exports.key_of_voucher, self.add_voucher)):
-            for old, new in exports.paired(first.rows(what), last.rows(what), key_of):
-                add(old, new)
-        for row in first.rows("balances"):
-            self.accounts[row["account"]]["before"] = int(row["balance"])
-        for row in last.rows("balances"):
-            self.accounts[row["account"]]["after"] = int(row["balance"])
+        self.first, self.last = first, last
+        self.opened = exports.tables_of(first, last)
+        for name, function in (("is_debit", lambda it: it == debit_class), ("prefix_of", prefix_of),
+                               ("cashier_of", lambda it: cashiers.get(it, ""))):
+            self.opened.create_function(name, 1, function)
+        self.opened.executescript(VIEWS)
+        self.tables = {name: self.rows(text) for name, text in ROWS.items()}
 
-    def add_session(self, old, new):
-        if new is None:
-            self.gone_sessions[old["account"]] += 1
-            self.accounts[old["account"]]["gone"] += int(old["charged"])
-            return
-        moved = {it: int(new[it]) - (int(old[it]) if old else 0) for it in USAGE[3:]}
-        account, name = self.accounts[new["account"]], new["class"]
-        if exports.is_line(new):
-            account["gone"] -= moved["charged"]
-            self.lines[new["account"]] += any(moved.values())
-            return
-        if name == self.debit_class:
-            account["debited"] += moved["charged"]
-            self.counts["debits"] += old is None
-            return
-        self.counts["begun"] += old is None
-        self.counts["ended"] += new["state"] != "open" and (old is None or old["state"] == "open")
-        self.counts["lowered"] += min(moved.values()) < 0
-        account["charged"] += moved["charged"]
-        if old is None or any(moved.values()):
-            for found in (self.usage[new["account"], name], self.plans[name]):
-                found.update(moved, sessions=1)
+    def rows(self, text):
+        return [list(it) for it in self.opened.execute(text)]
 
-    def add_voucher(self, old, new):
-        if new is None:
-            self.counts["gone vouchers"] += 1
-            self.accounts[old["account"]]["gone"] -= int(old["sum"])
-        elif old is None:
-            self.accounts[new["account"]]["sold"] += int(new["sum"])
-            cashier = self.cashiers.get(new["voucher"], "")
-            for found in (self.prefixes[prefix_of(new["voucher"])], self.sold_by[cashier]):
-                found.update(vouchers=1, sum=int(new["sum"]))
+    def counts(self):
+        """How many sessions began and ended, how many debits there are, and how many sessions have
+        less than before.
+        """
+        return self.rows("SELECT total(kind = 'use' AND is_new), total(kind = 'use' AND has_ended), "
+                         "total(kind = 'debit' AND is_new), "
+                         "total(kind = 'use' AND min(input, output, charged) < 0) FROM moved")[0]
 
     def notes(self):
         """What a reader is to know besides the figures."""
         carried, lines, gone = self.carried()
         if lines:
             yield f"{carried} sessions were carried forward into {lines} lines: no money moved"
-        for name, count in ("sessions", gone), ("vouchers", self.counts["gone vouchers"]):
+        [[vouchers]] = self.rows("SELECT count(*) FROM unsold")
+        for name, count in ("sessions", gone), ("vouchers", vouchers):
             if count:
                 yield f"{count} gone {name}: in the first export, and not in the second"
-        if self.counts["lowered"]:
-            yield f"{self.counts['lowered']} sessions have less than before: was the book restored?"
-        for name, account in sorted(self.accounts.items()):
-            if not is_explained(account):
-                name = names.readable(name)
+        if lowered := self.counts()[3]:
+            yield f"{lowered:.0f} sessions have less than before: was the book restored?"
+        for row in self.tables["balances"]:
+            if not is_explained(row):
+                name = names.readable(row[0])
                 yield f"UNEXPLAINED: the balance of {name} moved otherwise than its entries say"
 
     def carried(self):
         """How many sessions were carried forward, into how many lines, and how many are gone."""
-        carried = gone = 0
-        for name, count in self.gone_sessions.items():
-            if self.lines[name] and self.accounts[name]["gone"] == 0:
-                carried += count
-            else:
-                gone += count
-        return carried, sum(self.lines.values()), gone
+        lines = dict(self.rows("SELECT account, count(*) FROM moved WHERE kind = 'line' AND "
+                               "(input <> 0 OR output <> 0 OR charged <> 0) GROUP BY 1"))
+        lost = dict(self.rows("SELECT account, count(*) FROM lost GROUP BY 1"))
+        even = {row[0] for row in self.tables["balances"] if row[5] == 0}
+        carried = sum(count for name, count in lost.items() if name in lines and name in even)
+        return carried, sum(lines.values()), sum(lost.values()) - carried
 
     def is_explained(self):
-        return all(map(is_explained, self.accounts.values()))
+        return all(map(is_explained, self.tables["balances"]))
 
 
-def is_explained(account):
+def is_explained(row):
     """Whether the balance of an account moved by just what its entries say."""
-    moved = account["sold"] - account["charged"] - account["debited"] + account["gone"]
-    return account["after"] == account["before"] + moved
+    _, before, sold, charged, debited, gone, after = row
+    return after == before + sold - charged - debited + gone
 
 
 def prefix_of(number):
@@ -193,26 +195,14 @@ def in_money(title):
     return f"{title}, in {Money.site.currency}" if Money.site.currency else title
 
 
-def rows_of(header, found):
-    """A row of each name, or names, with its sums in the order of the header."""
-    rows = []
-    for names_of, sums in sorted(found.items()):
-        cells = [names_of] if isinstance(names_of, str) else [*names_of]
-        sums = [sums[it] if it in COUNTED else Money(sums[it]) for it in header[len(cells) :]]
-        rows.append(cells + sums)
-    return rows
-
-
 def tables_of(report):
-    """The header and the rows of each table, by its name. Those who used most octets are first."""
-    found = {
-        "usage": (USAGE, report.usage), "plans": (USAGE[1:], report.plans),
-        "vouchers": (["prefix", *SOLD], report.prefixes),
-        "cashiers": (["cashier", *SOLD], report.sold_by), "balances": (BALANCES, report.accounts),
-    }  # fmt: skip
-    tables = {name: (header, rows_of(header, sums)) for name, (header, sums) in found.items()}
-    tables["usage"][1].sort(key=lambda row: -(row[3] + row[4]))
-    return tables
+    """The header and the rows of each table, by its name, money as money."""
+    headers = {"usage": USAGE, "plans": USAGE[1:], "vouchers": ["prefix", *SOLD],
+               "cashiers": ["cashier", *SOLD], "balances": BALANCES}
+    is_money = lambda name, it: isinstance(it, int) and name not in COUNTED
+    return {name: (header, [[Money(it) if is_money(column, it) else it
+                             for column, it in zip(header, row)] for row in report.tables[name]])
+            for name, header in headers.items()}
 
 
 def show(report, tables, title, dates, top):
@@ -222,8 +212,7 @@ def show(report, tables, title, dates, top):
             print(f"there is no export of {date}: that of {snapshot.date} is taken")
     if isinstance(report.first, exports.Beginning):
         print("a session that began before and was reported since counts with all that it used")
-    counts = report.counts
-    print(f"sessions begun {counts['begun']}, ended {counts['ended']}; debits {counts['debits']}")
+    print("sessions begun {:.0f}, ended {:.0f}; debits {:.0f}".format(*report.counts()))
     table(in_money("used (octets) and charged by Class"), *tables["plans"])
     table(in_money("vouchers sold by what their numbers begin with"), *tables["vouchers"])
     table(in_money("vouchers sold by cashier, as the log of sales says"), *tables["cashiers"])
