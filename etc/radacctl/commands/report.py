@@ -129,9 +129,9 @@ class Report:
         """How many sessions began and ended, how many debits there are, and how many sessions have
         less than before.
         """
-        return self.rows("SELECT total(kind = 'use' AND is_new), total(kind = 'use' AND has_ended), "
-                         "total(kind = 'debit' AND is_new), "
-                         "total(kind = 'use' AND min(input, output, charged) < 0) FROM moved")[0]
+        return self.rows("SELECT total(is_new AND kind = 'use'), total(has_ended AND kind = 'use'), "
+                         "total(is_new AND kind = 'debit'), total(kind = 'use' AND "
+                         "min(input, output, charged) < 0) FROM moved")[0]
 
     def notes(self):
         """What a reader is to know besides the figures."""
