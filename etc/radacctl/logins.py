@@ -25,6 +25,7 @@ import subprocess
 import weakref
 
 from radacctl import files, freeradius, names, program, site, stock
+from radacctl.doctor import look
 
 FOLDER, USES_FOLDER = "/var/lib/radacctd-logins", "/var/lib/radacctd-uses"
 FILE, USES = f"{FOLDER}/logins.db", f"{USES_FOLDER}/uses.db"
@@ -144,10 +145,10 @@ def forget(path):
     """Removes a database and its log, as the user whose folder it is in: root's timer may not change
     another user's folder.
     """
-    words = [*files.as_owner(path), "rm", "-f", "--", *(path + it for it in ("", "-wal", "-shm"))]
-    done = subprocess.run(words, capture_output=True, text=True, cwd="/", timeout=60)
-    if done.returncode:
-        raise Fault(f"{path} cannot be removed: {done.stderr.strip()[-200:]}")
+    all_of_it = (path + it for it in ("", "-wal", "-shm"))
+    status, said = look.run(*files.as_owner(path), "rm", "-f", "--", *all_of_it)
+    if status:
+        raise Fault(f"{path} cannot be removed: {said.strip()[-200:]}")
 
 
 class Child:

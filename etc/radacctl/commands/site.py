@@ -31,7 +31,6 @@ import grp
 import os
 import pwd
 import re
-import subprocess
 import time
 import tomllib
 
@@ -137,10 +136,8 @@ def named_files():
 def packages():
     """The packages of such a site that are installed."""
     words = ["dpkg-query", "-W", "-f", "${Package} ${db:Status-Abbrev}\n", *PACKAGES]
-    with contextlib.suppress(OSError):
-        told = subprocess.run(words, capture_output=True, text=True).stdout
-        return sorted(it.split()[0] for it in told.splitlines() if it.split()[1:] == ["ii"])
-    return []
+    told = look.ran(words, look.LONGEST).stdout
+    return sorted(it.split()[0] for it in told.splitlines() if it.split()[1:] == ["ii"])
 
 
 def enabled():

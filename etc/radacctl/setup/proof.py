@@ -9,7 +9,7 @@ import os
 import secrets
 import time
 
-from radacctl import desk, files, freeradius, site
+from radacctl import codes, desk, files, freeradius, site
 from radacctl.doctor import kind, look
 from radacctl.setup import alone, front, steps
 
@@ -69,10 +69,8 @@ class Proof:
 
     def wait_for_balances(self):
         """Waits until the balances are newer than now: so they have all that was sold before."""
-        begun = time.time()
-        is_new = lambda: os.path.exists(site.BALANCES) and os.stat(site.BALANCES).st_mtime > begun
-        steps.wait_until(is_new, PATIENCE, lambda: (
-            f"the server does not write {site.BALANCES}: radacctl doctor"))
+        if not codes.are_written(time.time(), site.BALANCES):
+            raise steps.Failed(f"the server does not write {site.BALANCES}: radacctl doctor")
 
     def balance(self):
         return look.balances().get(ACCOUNT.encode())

@@ -20,6 +20,7 @@ import time
 
 from radacctl import files, freeradius, program, site
 from radacctl.doctor import look, machine
+from radacctl.program import Failed
 
 # Lines that have a secret are not printed: one that is named so, or a line that is nothing else.
 SECRET = re.compile(r"secret|token|password|Desk-Key|^[+-]\s*key\s*=|^[+-][A-Za-z0-9-]{16,}$", re.I)
@@ -29,10 +30,6 @@ NEW = "~setup-new"
 TRIAL = "/run/radacctd-trial"
 # Of each unit which of its starts has read which files. A boot starts all, and empties the folder.
 MARKS = "/run/radacctd-setup"
-
-
-class Failed(program.Failed):
-    """Why a step could not be done."""
 
 
 def ids(owner, group):
