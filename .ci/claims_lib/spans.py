@@ -268,6 +268,9 @@ class Checker:
         texts.append(self.tool(os.path.basename(self.page)[:-2]))
         if any(has(it, word) for it in texts):
             return True
+        if f'"{word}": "radacctl.' in tree.scripts["etc/radacctl/main.py"]:
+            # A link by which radacctl is started.
+            return True
         return any(os.path.basename(it) == word for it in tree.scripts) or self.is_script_name(word)
 
     def is_script_name(self, word):

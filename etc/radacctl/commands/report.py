@@ -129,8 +129,8 @@ class Report:
         """How many sessions began and ended, how many debits there are, and how many sessions have
         less than before.
         """
-        return self.rows("SELECT total(is_new AND kind = 'use'), total(has_ended AND kind = 'use'), "
-                         "total(is_new AND kind = 'debit'), total(kind = 'use' AND "
+        return self.rows("SELECT total(is_new AND kind = 'use'), total(has_ended AND kind = 'use'),"
+                         " total(is_new AND kind = 'debit'), total(kind = 'use' AND "
                          "min(input, output, charged) < 0) FROM moved")[0]
 
     def notes(self):
