@@ -210,13 +210,13 @@ def rewrite_killed(site, rewrite):
     check("the exports are the same", rewrite.exports() == before, True)
 
 
-def injected(rewrite, call, when, what, more=()):
+def injected(rewrite, call, when, what):
     """A run over whose so-manieth call something comes: its status, its errors, and whether the
     book is then the new file.
     """
     shutil.rmtree(rewrite.new, ignore_errors=True)
     old = os.stat(rewrite.site.book).st_ino
-    words = ["strace", "-qq", "-o", os.devnull, *more, "-e", f"trace={call}"]
+    words = ["strace", "-qq", "-o", os.devnull, "-e", f"trace={call}"]
     status, _, errors = rewrite(*words, "-e", f"inject={call}:{what}:when={when}")
     return status, errors, os.stat(rewrite.site.book).st_ino != old
 
@@ -241,17 +241,12 @@ def rewrite_killed_at_steps(rewrite, before):
 
 
 def rewrite_fails_at_a_write(rewrite, before):
-    """A full disk while SQLite writes the rows. With sums a child does that, and is killed, too."""
-    # `init` makes fewer writes, and only a child writes with sums.
-    when, more = (200, ["-f"]) if books.has_sums(rewrite.site.book) else (20, [])
-    status, errors, _ = injected(rewrite, "pwrite64", when, "error=ENOSPC", more)
+    """A full disk while SQLite writes the rows, and a kill there."""
+    status, errors, _ = injected(rewrite, "pwrite64", 20, "error=ENOSPC")
     check("a full disk is told", (status, "full" in errors and "as it was" in errors), (1, True))
     check("and leaves nothing", os.path.lexists(rewrite.new), False)
-    if more:
-        status, errors, _ = injected(rewrite, "pwrite64", when, "signal=SIGKILL", more)
-        told = "ended with status" in errors and "as it was" in errors
-        check("a child that is killed is told", (status, told), (1, True))
-        check("and leaves nothing", os.path.lexists(rewrite.new), False)
+    status, _, is_new = injected(rewrite, "pwrite64", 20, "signal=SIGKILL")
+    check("killed as it writes the book is the old one", (status != 0, is_new), (True, False))
     check("the exports are the same", rewrite.exports() == before, True)
 
 

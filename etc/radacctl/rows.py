@@ -1,13 +1,10 @@
 """The rows of a book: copied to a new file, and compared."""
 
 import contextlib
-import ctypes
 import fcntl
 import hashlib
 import itertools
 import os
-import signal
-import sqlite3
 import struct
 
 from radacctl.program import Failed, say
@@ -24,8 +21,6 @@ SUM_AT, SUM_OCTETS = 20, 8
 # The lock that a program has of the file of a book that it has open, where SQLite has it. It
 # belongs to the open file: struct flock of l_type, l_whence, l_start, l_len and l_pid.
 LOCK = struct.pack("hhqqi4x", fcntl.F_WRLCK, os.SEEK_SET, 1 << 30, 512, 0)
-# Asks for a signal once the parent ends (prctl).
-PARENT_DEATH_SIGNAL = 1
 
 
 class Refused(Failed):
@@ -49,45 +44,6 @@ def has_sums(book):
     """Whether the pages of a database end in sums."""
     with open(book, "rb") as file:
         return file.read(SUM_AT + 1)[SUM_AT] == SUM_OCTETS
-
-
-def in_child(target, work):
-    """Works on a database in a child, which ends without closing it: SQLite copies the log into the
-    file as it closes a database. The child ends with this process.
-    """
-    parent = os.getpid()
-    read, write = os.pipe()
-    child = os.fork()
-    if child == 0:
-        fault = "it was cut off"
-        try:
-            end_with(parent)
-            work(target())
-            fault = ""
-        except (Refused, OSError, sqlite3.Error) as found:
-            fault = str(found)
-        finally:
-            try:
-                os.write(write, fault.encode()[:1000])
-            finally:
-                os._exit(1 if fault else 0)
-    os.close(write)
-    try:
-        with open(read, encoding="utf-8", errors="replace") as told:
-            fault = told.read()
-    except BaseException:
-        os.kill(child, signal.SIGKILL)
-        os.waitpid(child, 0)
-        raise
-    status = os.waitpid(child, 0)[1]
-    if status:
-        raise Refused(fault or f"the copying of the rows ended with status {status}")
-
-
-def end_with(parent):
-    """Lets this process end with its parent."""
-    if ctypes.CDLL(None).prctl(PARENT_DEATH_SIGNAL, signal.SIGKILL) or os.getppid() != parent:
-        raise Refused("it cannot end with its parent")
 
 
 def test_log(book):

@@ -33,6 +33,7 @@ import argparse
 import contextlib
 import hashlib
 import os
+import shutil
 import signal
 import sqlite3
 import stat
@@ -47,7 +48,7 @@ from radacctl.program import say
 
 EXPORTS = ("sessions", "balances", "topups", "overruns")
 # What may be in BOOK.new.
-PARTS = ("book", "book-wal", "book-shm", "book-journal")
+PARTS = ("book", "book-wal", "book-shm", "book-journal", "book-empty", "book-log")
 # The memory for pages, in KiB.
 CACHE = 65_536
 
@@ -122,15 +123,23 @@ class Rewrite:
         self.digest = rows.digest_of(self.book)
 
     def fill(self):
-        """Copies all rows into the new file, and compares them."""
+        """Copies all rows into the new file, and compares them. SQLite copies the log into the file
+        as it closes it: with sums both are put back then.
+        """
+        empty, log = (os.path.join(self.new_folder, it) for it in ("book-empty", "book-log"))
         if self.has_sums:
-            rows.in_child(self.both, rows.copy)
+            shutil.copyfile(self.new, empty)
+        with contextlib.closing(self.both()) as opened:
+            rows.copy(opened)
+            if self.has_sums:
+                os.link(f"{self.new}-wal", log)
+            else:
+                opened.execute("PRAGMA wal_checkpoint(TRUNCATE)")
+        if self.has_sums:
+            os.rename(empty, self.new)
+            os.rename(log, f"{self.new}-wal")
             # Gives the pages in the log their sums, and copies them into the file.
             self.command("plans", self.new)
-        else:
-            with contextlib.closing(self.both()) as opened:
-                rows.copy(opened)
-                opened.execute("PRAGMA wal_checkpoint(TRUNCATE)")
 
     def both(self):
         """The new file and the old one. The log of the new one is copied into it only if it is
