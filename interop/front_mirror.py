@@ -275,17 +275,15 @@ def plans(folder):
         used = report("Interim-Update", "S-2", "al", 2 * MEBIBYTE, plan=f"silver{STAMP}")
         check("a session of it", radius.reports("ap1", used), True)
         waits_for("costs that", lambda: book.balance("al"), 44)
-        left = [it for it in os.listdir(folder) if it.startswith(".plans") or it.endswith("-new")]
+        left = [it for it in os.listdir(folder) if it.endswith(("-shm", "-new"))]
         check("nothing is left next to the book", left, [])
 
 
 def left_by_kill(folder, book):
-    """What plans-in-force leaves if it is killed: a second name, with which no book is served, or a
-    file that is not whole.
+    """What plans-in-force leaves if it is killed: what SQLite has made beside the log, or a file
+    that is not whole.
     """
-    left = os.path.join(folder, ".plans-of-book.left")
-    os.mkdir(left)
-    os.link(book, os.path.join(left, "book"))
+    front.written(book + "-shm", "x" * 32_768)
     front.written(os.path.join(folder, "plans.csv.radacctd-new"), "class,block\n")
 
 
