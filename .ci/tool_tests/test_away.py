@@ -110,7 +110,7 @@ class Asks(unittest.TestCase):
                     file.write('#!/bin/sh\necho "$@"\nexit ${STATUS:-0}\n')
                 os.chmod(program, 0o755)
                 body = body.replace("/usr/libexec/radacctd", folder)
-                names = "names_of() { echo $1 | sed s/@/@s3/; }"
+                names = "names_of() { printf '%s\\n' \"$@\" | sed 's/@[*]/@s3/'; }"
                 run = "refuse_if_away"
                 if name == "postinst":
                     run = "for it in radacctd.service radacctd@s3.service radacctd-key.timer; do "

@@ -57,7 +57,7 @@ def test_places(table, folder):
         for port in HEADER[2:]:
             other = known.get((it["address"], (port, str(it[port]))), shard)
             if other != shard:
-                raise Wrong(f"the table has {it[port]} ({port}) for {shard}, where {other} is")
+                raise program.Failed(f"the table has {it[port]} ({port}) for {shard}, where {other} is")
 
 
 def shard_of(account):
