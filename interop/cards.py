@@ -23,12 +23,7 @@ MORE_KEYS = f"""
 token = "{REDEEM_KEY}"
 cashier = true
 """
-WRAPPER = """#!/bin/sh
-RADACCTD_STOCK={folder}/stock.csv RADACCTD_KEY={folder}/redeem.key
-RADACCTD_DESKS=127.0.0.1:{desk}
-export RADACCTD_STOCK RADACCTD_KEY RADACCTD_DESKS
-exec {tool}
-"""
+WRAPPER = "#!/bin/sh\nexec {tool}\n"
 
 
 def tool(name, *words):
@@ -178,10 +173,13 @@ def begin_redeem(proxy, server, folder):
         file.write(REDEEM_KEY + "\n")
     script = os.path.join(proxy.folder, "redeem")
     with open(script, "w", encoding="utf-8") as file:
-        file.write(WRAPPER.format(folder=folder, desk=server.desk, tool=f"{TOOLS}/radacctl redeem"))
+        file.write(WRAPPER.format(tool=f"{TOOLS}/radacctl redeem"))
     os.chmod(script, 0o755)
+    # The environment of fcgiwrap is the unit's.
+    own = {"RADACCTD_STOCK": f"{folder}/stock.csv", "RADACCTD_KEY": f"{folder}/redeem.key",
+           "RADACCTD_DESKS": f"127.0.0.1:{server.desk}"}
     words = ["fcgiwrap", "-c", "2", "-p", script, "-s", f"unix:{proxy.socket}"]
-    process = subprocess.Popen(words, start_new_session=True)
+    process = subprocess.Popen(words, start_new_session=True, env=os.environ | own)
     for _ in range(100):
         if os.path.exists(proxy.socket):
             break

@@ -28,7 +28,7 @@ ASK = f"""import socket, struct, sys
 def record(kind, data):
     return struct.pack("!BBHHBB", 1, kind, 1, len(data), 0, 0) + data
 variables = {{"SCRIPT_FILENAME": sys.argv[2], "REQUEST_METHOD": "POST", "CONTENT_LENGTH": "0",
-             "LD_PRELOAD": "{PLANTED}"}}
+             "LD_PRELOAD": "{PLANTED}", **dict(it.split("=") for it in sys.argv[3:])}}
 pairs = b"".join(bytes([len(it), len(value)]) + (it + value).encode()
                  for it, value in variables.items())
 caller = socket.socket(socket.AF_UNIX)
@@ -148,6 +148,9 @@ def plants(box):
         said = box.must(f"journalctl --sync; journalctl -o cat -u radacctd-{name}")
         check("and loads no library of nginx' user",
               bool(re.search(f"{PLANTED}.*failed to map", said)), True)
+    redeem = f"{words} RADACCTD_DESKS=127.0.0.1:9"
+    said = box.run(f"setpriv --reuid www-data --regid www-data --init-groups {redeem}")[1]
+    check("a request that names a desk redeems nothing", "Status: 503" in said or said, True)
 
 
 def shut_in(box):

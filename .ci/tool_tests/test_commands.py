@@ -3,6 +3,7 @@
 import contextlib
 import functools
 import gzip
+import http.server
 import io
 import json
 import os
@@ -10,6 +11,7 @@ import re
 import socket
 import subprocess
 import tempfile
+import threading
 import tomllib
 import unittest
 from unittest import mock
@@ -426,22 +428,45 @@ class Redeem(Folder):
                 it.credit(where, 5)
         self.assertRegex(str(found.exception), "given.csv: Input/output error")
 
+    def test_no_request_names_the_stock_the_key_or_a_desk(self):
+        """fcgiwrap hands each variable of a request on, and whoever is nginx' user sends any: it sold
+        itself codes that nobody had printed, and got the key of a cashier.
+        """
+        code, body = stock.new_code(), b'{"result":"new"}'
+        files.make(f"{self.folder}/key", b"k" * 16)
+        files.make(f"{self.folder}/stock.csv", f"code,sum\n{code},500\n".encode())
 
-    def test_no_request_says_where_key_stock_and_desk_are(self):
-        """fcgiwrap hands each variable of a request on, but for those that the unit has."""
-        path = f"{ROOT}/etc/nginx/radacctd-redeem.service"
-        found = dict(it.split("=") for line in files.text(path).splitlines()
-                     for it in line.removeprefix("Environment=").split()
-                     if line.startswith("Environment="))
+        class Desk(http.server.BaseHTTPRequestHandler):
+            def do_POST(self):
+                self.send_response(201)
+                self.send_header("Content-Length", str(len(body)))
+                self.end_headers()
+                self.wfile.write(body)
+
+            def log_message(self, *_):
+                pass
+
+        with http.server.HTTPServer(("127.0.0.1", 0), Desk) as desks:
+            threading.Thread(target=desks.serve_forever, daemon=True).start()
+            self.addCleanup(desks.shutdown)
+            places = {"RADACCTD_STOCK": f"{self.folder}/stock.csv", "RADACCTD_KEY": f"{self.folder}/key",
+                      "RADACCTD_WITHDRAWN": f"{self.folder}/withdrawn.csv",
+                      "RADACCTD_DESKS": "{}:{}".format(*desks.server_address)}
+            asked = json.dumps({"account": "al", "code": code})
+            own = {"FCGI_ROLE": "RESPONDER", "CONTENT_LENGTH": str(len(asked)), **os.environ}
+            tool = f"{ROOT}/etc/tools/radacctl redeem"
+            for name in (*places, None):
+                # The shell is in the place of fcgiwrap: what it has is the unit's.
+                words = f"{name}={places[name]} {tool}" if name else tool
+                unit = {**own, **{it: text for it, text in places.items() if it != name}}
+                done = subprocess.run(["sh", "-c", f"{words}; exit $?"], env=unit, input=asked,
+                                      capture_output=True, text=True)
+                self.assertEqual(done.stdout[:11], "Status: 503" if name else "Status: 200", name)
+                self.assertIn(f"a request has {name}" if name else "", done.stderr)
+
+    def test_each_variable_that_it_reads_is_one_that_no_request_may_have(self):
         code = files.text(redeem.__file__).removeprefix(f'"""{redeem.__doc__}"""')
-        read = re.findall(r"RADACCTD_[A-Z]+", code)
-        self.assertEqual((set(found), set(found.values())), (set(read), {""}))
-        words = ["python3", "-Bc", "from radacctl.commands import redeem as it; "
-                 "print(it.STOCK, it.SECOND, it.KEY, it.DESKS)"]
-        said = [subprocess.run(words, cwd=f"{ROOT}/etc", env=env, capture_output=True).stdout
-                for env in ({"PATH": os.environ["PATH"]}, found | {"PATH": os.environ["PATH"]})]
-        self.assertEqual(*said)
-        self.assertIn(site.REDEEM_KEY.encode(), said[0])
+        self.assertEqual(set(re.findall(r"RADACCTD_[A-Z]+", code)), set(redeem.PLACES))
 
 
 class Shards(unittest.TestCase):

@@ -18,9 +18,9 @@ is written before the desk is connected.
 
 Its files are /var/lib/radacctd-vouchers/stock.csv, the logs of withdrawn codes, and
 /etc/radacctd-redeem.key, which has the key of a cashier and nothing else. RADACCTD_STOCK,
-RADACCTD_WITHDRAWN (the second log), RADACCTD_KEY and RADACCTD_DESKS name others. The desk is that
-of `radacctl sell`. If RADACCTD_DESKS has two with a comma, a code is redeemed once both took it,
-the first one first. It stops at a desk that did not take it.
+RADACCTD_WITHDRAWN (the second log), RADACCTD_KEY and RADACCTD_DESKS of the service name others. The
+desk is that of `radacctl sell`. If RADACCTD_DESKS has two with a comma, a code is redeemed once both
+took it, the first one first. It stops at a desk that did not take it.
 
 It ends with 0 if it wrote an answer. Standard error, which the journal has, says why it is 503, and
 has no code and no key.
@@ -36,13 +36,14 @@ from radacctl import desk as desks
 from radacctl import names, program, site
 from radacctl import stock as stocks
 
-# The unit has each of these, if only as an empty one: so no request to fcgiwrap says another.
-STOCK = os.environ.get("RADACCTD_STOCK") or f"{stocks.FOLDER}/stock.csv"
+# What says where files and desks are.
+PLACES = ("RADACCTD_STOCK", "RADACCTD_WITHDRAWN", "RADACCTD_KEY", "RADACCTD_DESKS")
+STOCK = os.environ.get("RADACCTD_STOCK", f"{stocks.FOLDER}/stock.csv")
 FOLDER = os.path.dirname(os.path.abspath(STOCK))
-SECOND = os.environ.get("RADACCTD_WITHDRAWN") or stocks.SECOND
+SECOND = os.environ.get("RADACCTD_WITHDRAWN", stocks.SECOND)
 WITHDRAWN = [os.path.join(FOLDER, "withdrawn.csv"), SECOND]
 GIVEN = os.path.join(FOLDER, "given", "given.csv")
-KEY = os.environ.get("RADACCTD_KEY") or site.REDEEM_KEY
+KEY = os.environ.get("RADACCTD_KEY", site.REDEEM_KEY)
 DESKS = os.environ.get("RADACCTD_DESKS") or "{}:{}".format(*desks.usual())
 LARGEST_BODY = 1024
 # In seconds: for a connection, an answer, another request for the same code, and another run over
@@ -60,6 +61,19 @@ class Answered(Exception):
 
 class Away(program.Failed):
     """Why it cannot be said whether the code is redeemed. It has no code and no key."""
+
+
+def refuse_places():
+    """Ends if a request says where a file or a desk is. fcgiwrap hands each variable of a request on,
+    and those of its unit, which its own process has.
+    """
+    if "FCGI_ROLE" not in os.environ:
+        return
+    with open(f"/proc/{os.getppid()}/environ", "rb") as file:
+        own = os.fsdecode(file.read()).split("\0")
+    for name in PLACES:
+        if name in os.environ and f"{name}={os.environ[name]}" not in own:
+            raise Away(f"a request has {name}, which only the unit may have")
 
 
 def asked():
@@ -167,6 +181,7 @@ def main(words):
     # Its web server gives it no argument, and a word would be a person's.
     parser().parse_args(words)
     try:
+        refuse_places()
         account, code = asked()
         with contextlib.suppress(OSError):
             os.mkdir(os.path.dirname(GIVEN), 0o700)
