@@ -231,11 +231,16 @@ class Refused(unittest.TestCase):
             with mock.patch.object(doctor.copies.look, "values_in", lambda _: there):
                 text = doctor.put_back()
             for old, new in (("systemctl", "true"), (" -C / ", f" -C {folder}/root "),
-                             (" /root/;", f" {folder}/moved;"),
-                             (f"mv {logins.FOLDER}", f"mv {folder}/root{logins.FOLDER}")):
+                             (" /root/", f" {folder}/moved/"),
+                             (f" {logins.FOLDER} ", f" {folder}/root{logins.FOLDER} ")):
                 self.assertEqual(text.count(old), 2 if old == "systemctl" else 1, old)
                 text = text.replace(old, new)
-            subprocess.run(["sh", "-ec", text], check=True)
+            # Given again weeks later, next to what was moved before: with the log of the damaged one
+            # the database of the copy would be another one.
+            for _ in range(2):
+                open(f"{folder}/root{logins.FOLDER}/logins.db-wal", "w", encoding="ascii").close()
+                subprocess.run(["sh", "-ec", text], check=True)
+                self.assertEqual(os.listdir(f"{folder}/root{logins.FOLDER}"), ["logins.db"])
             with open(f"{folder}/root{logins.FOLDER}/logins.db", encoding="ascii") as file:
                 self.assertEqual(file.read(), "SQLite format 3 of the copy")
 

@@ -1,6 +1,7 @@
 """Packages: FreeRADIUS' lines, the databases of logins, the key of codes, what was not finished."""
 
 import contextlib
+import os
 import re
 import shlex
 import tarfile
@@ -102,7 +103,8 @@ def put_back(path=logins.FILE):
             return file is not None and file.read(15) == b"SQLite format 3"
 
     copy = shlex.quote(f"{copies.last_good(None, is_good) or site.BACKUPS + '/DATE'}/site.tar.gz")
-    return (f"systemctl stop freeradius; mv {logins.FOLDER} /root/; tar -xpzf {copy} "
+    return (f"systemctl stop freeradius; mv -T --backup=numbered {logins.FOLDER} "
+            f"/root/{os.path.basename(logins.FOLDER)}; tar -xpzf {copy} "
             f"-C / {logins.FOLDER.lstrip('/')}; systemctl start freeradius")
 
 
