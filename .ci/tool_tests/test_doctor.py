@@ -406,7 +406,10 @@ class Cures(unittest.TestCase):
             path = os.path.join(os.path.realpath(folder), name)
             files.make(path, b"", 0o644)
             [fault] = look.open_to_others(path)
+            with unittest.mock.patch.object(pages, "LOGS", f"{folder}/x*"):
+                [log] = pages.modes("")
         self.assertEqual(shlex.split(fault.cure), ["chmod", "o=", path])
+        self.assertEqual(shlex.split(log.cure)[:3], ["chmod", "o=", f"{path};"])
         one = unittest.mock.Mock(has_shards=False)
         with unittest.mock.patch.object(freeradius, "settings", lambda: {"queue": f"/{name}"}), \
                 unittest.mock.patch.object(fronts, "states", lambda: []), said((0, "root")):

@@ -5,6 +5,7 @@ import glob
 import http.client
 import os
 import re
+import shlex
 import socket
 import ssl
 
@@ -106,7 +107,7 @@ def modes(text):
     for path in sorted(glob.glob(LOGS)):
         if look.mode_of(os.stat(path)) & 0o007:
             yield Fault("log-open", f"others may read {path}",
-                        f"chmod o= {path}; and radacctd-logs.tmpfiles: DESK.md")
+                        f"chmod o= {shlex.quote(path)}; and radacctd-logs.tmpfiles: DESK.md")
     for path in named(text, "ssl_certificate_key"):
         yield from look.open_to_others(path)
 
