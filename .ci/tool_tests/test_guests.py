@@ -476,6 +476,24 @@ class Codes(unittest.TestCase):
         self.assertIn("price 27.00 EUR\nadded 3, repeated 0, refused 0", self.said.getvalue())
         self.assertEqual(len(self.site.money), 3)
 
+    def test_a_sale_that_the_next_run_finds_is_paid(self):
+        """The desk took it, and nobody heard that before this run ended: its price is in neither run's."""
+        self.site.answers = ["go", "lost"]
+        with contextlib.redirect_stderr(io.StringIO()) as said:
+            self.assertEqual(self.sell(), 3)
+        self.assertIn("price 0.00 EUR", self.said.getvalue())
+        self.assertIn("t-000000000000 had no answer: if the next run finds it sold, 9.00 EUR is to be "
+                      "paid besides", said.getvalue())
+        self.in_book(self.account(0))
+        self.assertEqual(self.sell(), 0)
+        self.assertIn("price 18.00 EUR\nadded 2, repeated 1", self.said.getvalue())
+        for at, answers in enumerate((["away"], ["go", "go", "away"])):
+            self.site.answers, self.site.numbers, self.site.money = answers, {}, {}
+            self.in_book()
+            with contextlib.redirect_stderr(io.StringIO()) as said:
+                self.assertEqual(self.sell(), 3)
+            self.assertIn(f"t-00000000000{at} had no answer", said.getvalue())
+
     def test_a_sale_that_cannot_be_noted_is_paid(self):
         """The timer notes it, by the balances."""
         run = logins.Store.run

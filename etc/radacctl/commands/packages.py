@@ -210,7 +210,7 @@ def credit(words, logins_store, found, known):
 
     If this is killed before a sale is noted, or cannot note it, the timer finds it in the balances.
     """
-    desk, outcomes, stop = sells.desk_of(words), {}, None
+    desk, outcomes, stop, money = sells.desk_of(words), {}, None, moneys.of_site()
     for it in found:
         name = names.shown(it.account)
         # The book says what was sold: an older one may lack sales that the logins have.
@@ -224,6 +224,9 @@ def credit(words, logins_store, found, known):
                     outcomes[name] = "new"
             except sells.Stop as why:
                 stop = why
+                if desk.is_lost:
+                    say(f"{name} had no answer: if the next run finds it sold, "
+                        f"{money.shown(it.price)} is to be paid besides")
         if outcomes.get(name) in ("new", "repeat"):
             with contextlib.suppress(logins.Fault):
                 lapses.sold(logins_store, it.account, int(time.time()))
@@ -231,7 +234,7 @@ def credit(words, logins_store, found, known):
         say(f"{before} of these codes were sold before, here or at the desk's page: nothing was "
             "credited for them")
     new = [it for it in found if outcomes.get(names.shown(it.account)) == "new"]
-    program.show(f"price {moneys.of_site().shown(sum(it.price for it in new))}")
+    program.show(f"price {money.shown(sum(it.price for it in new))}")
     status = sells.report(outcomes, {}, {"": stop} if stop else {})
     twice = sold_twice(new)
     return status or twice
