@@ -284,6 +284,10 @@ def broken(folder):
                 found = [fate(site.radius.login(*it, [station(1)])) for it in
                          ((CODE, CODE), ("bob", "bobs"))]
                 check(f"{name}: {what}: logins are refused", [it[0] for it in found], 2 * [False])
+                for _ in range(10):
+                    site.radius.login(CODE, CODE, [station(2)])
+                tried = [] if name == "uses" else site.uses.read("SELECT * FROM try")
+                check(f"{name}: {what}: these are no wrong tries", tried, [])
                 check(f"{name}: {what}: reports are answered", answered(site), True)
                 site.radius.kill()
                 put_back(path, kept)
