@@ -429,8 +429,8 @@ class Redeem(Folder):
         self.assertRegex(str(found.exception), "given.csv: Input/output error")
 
     def test_no_request_names_the_stock_the_key_or_a_desk(self):
-        """fcgiwrap hands each variable of a request on, and whoever is nginx' user sends any: it sold
-        itself codes that nobody had printed, and got the key of a cashier.
+        """fcgiwrap hands each variable of a request on, and whoever is nginx' user sends any: it
+        sold itself codes that nobody had printed, and got the key of a cashier.
         """
         code, body = stock.new_code(), b'{"result":"new"}'
         files.make(f"{self.folder}/key", b"k" * 16)
@@ -449,7 +449,8 @@ class Redeem(Folder):
         with http.server.HTTPServer(("127.0.0.1", 0), Desk) as desks:
             threading.Thread(target=desks.serve_forever, daemon=True).start()
             self.addCleanup(desks.shutdown)
-            places = {"RADACCTD_STOCK": f"{self.folder}/stock.csv", "RADACCTD_KEY": f"{self.folder}/key",
+            places = {"RADACCTD_STOCK": f"{self.folder}/stock.csv",
+                      "RADACCTD_KEY": f"{self.folder}/key",
                       "RADACCTD_WITHDRAWN": f"{self.folder}/withdrawn.csv",
                       "RADACCTD_DESKS": "{}:{}".format(*desks.server_address)}
             asked = json.dumps({"account": "al", "code": code})

@@ -477,13 +477,13 @@ class Codes(unittest.TestCase):
         self.assertEqual(len(self.site.money), 3)
 
     def test_a_sale_that_the_next_run_finds_is_paid(self):
-        """The desk took it, and nobody heard that before this run ended: its price is in neither run's."""
+        """The desk took it, and nobody heard that before this run ended: no run's price has it."""
         self.site.answers = ["go", "lost"]
         with contextlib.redirect_stderr(io.StringIO()) as said:
             self.assertEqual(self.sell(), 3)
         self.assertIn("price 0.00 EUR", self.said.getvalue())
-        self.assertIn("t-000000000000 had no answer: if the next run finds it sold, 9.00 EUR is to be "
-                      "paid besides", said.getvalue())
+        self.assertIn("t-000000000000 had no answer: if the next run finds it sold, 9.00 EUR is to "
+                      "be paid besides", said.getvalue())
         self.in_book(self.account(0))
         self.assertEqual(self.sell(), 0)
         self.assertIn("price 18.00 EUR\nadded 2, repeated 1", self.said.getvalue())

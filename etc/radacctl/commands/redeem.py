@@ -64,8 +64,8 @@ class Away(program.Failed):
 
 
 def refuse_places():
-    """Ends if a request says where a file or a desk is. fcgiwrap hands each variable of a request on,
-    and those of its unit, which its own process has.
+    """Ends if a request says where a file or a desk is. fcgiwrap hands each variable of a request
+    on, and those of its unit, which its own process has.
     """
     if "FCGI_ROLE" not in os.environ:
         return
