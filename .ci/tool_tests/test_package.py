@@ -111,6 +111,18 @@ class Installation(unittest.TestCase):
         self.assertRegex(done.stderr, "Then install this package again.*systemctl enable --now "
                                       "radacctd.*\n.*radacctl setup")
 
+    def test_a_unit_may_run_what_is_below_its_prefix(self):
+        """bin/install takes any, and writes it into the units in the place of /usr/local."""
+        count = 0
+        for path in glob.glob(os.path.join(ROOT, "etc", "*", "*.service")):
+            unit = text(path).replace("/usr/local", "/opt/one")
+            for folders in re.findall(r"(?m)^ExecPaths=(.+)", unit):
+                for it in re.findall(r"/opt/one/\S+", unit):
+                    inside = tuple(f"{folder}/" for folder in folders.split())
+                    self.assertTrue(it.startswith(inside), path)
+                    count += 1
+        self.assertEqual(count, 2)
+
     def test_a_pairs_tools_are_where_its_units_run_them(self):
         """With each prefix: bin/install writes it into no part of radacctl."""
         runs = set()
