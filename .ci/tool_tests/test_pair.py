@@ -12,7 +12,7 @@ import time
 import unittest
 from unittest import mock
 
-from radacctl import desk, outbox, queues
+from radacctl import desk, files, outbox, queues
 from tool_tests import script
 
 COMPARE, OUTBOX = (script("etc", "pair", it) for it in ("radacctd-compare", "radacctd-outbox"))
@@ -113,7 +113,7 @@ class Pair(unittest.TestCase):
         for name in names:
             path = os.path.join(self.folder, name)
             os.symlink(other, path)
-            os.symlink(other, f"{path}.{os.getpid()}.new")
+            os.symlink(other, path + files.NEW)
         now = time.time()
         self.turn(state(now, {"al": 5}), state(now, {"al": 5}, apart=0))
         with open(other, encoding="ascii") as file:

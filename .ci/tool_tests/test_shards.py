@@ -8,6 +8,7 @@ import re
 import shutil
 import subprocess
 import tempfile
+import threading
 import time
 import unittest
 from unittest import mock
@@ -55,18 +56,36 @@ class Joined(unittest.TestCase):
         self.old = {name for name, _, more in rows if not more.isdecimal()}
         return found, self.now - os.stat(self.path("balances.csv")).st_mtime
 
-    def test_of_two_joins_at_once_none_gets_half_a_file(self):
-        """As one begins to write, the other one gives its file the name."""
+    def test_of_two_at_once_both_publish_a_whole_file(self):
+        """A person compares a pair for minutes, and its timer does each 15 seconds: neither has the
+        other's file, or fails.
+        """
         rename, path = os.rename, self.path("balances.csv")
+        faults, begun = [], []
+
+        def publish(text):
+            try:
+                files.publish(path, text, moment=self.now)
+            except OSError as why:
+                faults.append(why)
 
         def late(*words):
-            with mock.patch("os.getpid", lambda: 1), mock.patch("os.fchmod", side_effect=OSError):
-                self.assertRaises(OSError, files.publish, path, "account,bal", moment=self.now)
+            if not begun:
+                begun.append(threading.Thread(target=publish, args=("the other",)))
+                begun[0].start()
+                begun[0].join(0.2)
+                self.assertFalse(os.path.exists(path))
             rename(*words)
 
-        with mock.patch("os.rename", late), contextlib.suppress(FileNotFoundError):
-            files.publish(path, "whole", moment=self.now)
-        self.assertFalse(os.path.exists(path))
+        with mock.patch("os.rename", late):
+            publish("whole")
+            begun[0].join()
+        self.assertEqual(faults, [])
+        with open(path, encoding="ascii") as file:
+            self.assertEqual(file.read(), "the other")
+        # A disk that was full may leave half a file, which the next one removes.
+        with mock.patch("os.fchmod", side_effect=OSError):
+            self.assertRaises(OSError, files.publish, path, "account,bal", moment=self.now)
         files.publish(path, "whole", moment=self.now)
         with open(path, encoding="ascii") as file:
             self.assertEqual(file.read(), "whole")

@@ -3,7 +3,6 @@
 import contextlib
 import errno
 import fcntl
-import glob
 import grp
 import json
 import os
@@ -147,23 +146,26 @@ def publish(path, text, *, mode=0o640, moment=None):
     """Replaces a file whole, for others to read; a moment becomes its time of change.
 
     It is the folder's owner's: root may give the command by hand, and no link is followed. Of two at
-    once neither gives its name to what the other one has begun: one of them fails.
+    once one waits for the other, which has the folder's lock.
     """
-    for it in glob.glob(f"{glob.escape(path)}.*.new"):
-        remove(it)
-    new = f"{path}.{os.getpid()}.new"
-    private = lambda name, flags: os.open(name, flags, 0o600)
-    with open(new, "x", encoding="utf-8", newline="", opener=private) as file:
-        file.write(text)
-        file.flush()
-        handle = file.fileno()
-        os.fchmod(handle, mode)
-        if os.geteuid() == 0:
-            owner = os.stat(os.path.dirname(path) or ".")
-            os.fchown(handle, owner.st_uid, owner.st_gid)
-        if moment is not None:
-            os.utime(handle, (moment, moment))
-    os.rename(new, path)
+    new, private = path + NEW, lambda name, flags: os.open(name, flags, 0o600)
+    folder = os.open(os.path.dirname(path) or ".", os.O_RDONLY | os.O_DIRECTORY | os.O_CLOEXEC)
+    try:
+        fcntl.flock(folder, fcntl.LOCK_EX)
+        remove(new)
+        with open(new, "x", encoding="utf-8", newline="", opener=private) as file:
+            file.write(text)
+            file.flush()
+            handle = file.fileno()
+            os.fchmod(handle, mode)
+            if os.geteuid() == 0:
+                owner = os.fstat(folder)
+                os.fchown(handle, owner.st_uid, owner.st_gid)
+            if moment is not None:
+                os.utime(handle, (moment, moment))
+        os.rename(new, path)
+    finally:
+        os.close(folder)
 
 
 def is_opened(path):
