@@ -201,15 +201,16 @@ class Stock:
         """Waits until FreeRADIUS has written a text."""
         front.waits_for(name, lambda: text in self.said(), True, PATIENCE)
 
-    def login(self, name, eap, inner, outer=OUTER, source=ACCESS_SERVER):
+    def login(self, name, eap, inner, outer=OUTER, source=ACCESS_SERVER, again=0):
         """The name, the Class and the quota of an Access-Accept, or None."""
-        return self.tries(SUPPLICANT.format(eap=eap, inner=inner, name=name, outer=outer), source)
+        settings = SUPPLICANT.format(eap=eap, inner=inner, name=name, outer=outer)
+        return self.tries(settings, source, again)
 
-    def tries(self, settings, source=ACCESS_SERVER):
-        """The same by the settings of a supplicant."""
+    def tries(self, settings, source=ACCESS_SERVER, again=0):
+        """The same by the settings of a supplicant, which logs in again so often."""
         path = os.path.join(self.folder, "supplicant.conf")
         front.written(path, settings)
-        words = ["eapol_test", "-c", path, "-a", "127.0.0.1", "-p", str(self.port), "-r0"]
+        words = ["eapol_test", "-c", path, "-a", "127.0.0.1", "-p", str(self.port), f"-r{again}"]
         words += ["-t", str(PATIENCE), "-A", source, "-s", SECRET]
         done = subprocess.run(words, capture_output=True, text=True)
         text = done.stdout[done.stdout.rfind("RADIUS message: code=") :]
@@ -244,6 +245,7 @@ def tunnels(folder):
         reason = "radacctd_login is missing in the inner tunnel"
         radius.says("with a reason", reason)
         front.written(os.path.join(radius.raddb, INNER), kept)
+        resumed(radius)
         other_settings(radius)
         outer_class(radius)
     finally:
@@ -266,6 +268,36 @@ def by_steps(radius):
         check(f"{name}: with the outer name", radius.login("al", *method, "al"), wanted)
     check("a name with a space", radius.login(SPACED, *METHODS[0]), None)
     radius.says("is refused by filter_username", "contains whitespace")
+
+
+CACHE = """
+			enable = yes
+			name = "tried"
+			persist_dir = "{}"
+"""
+
+
+def resumed(radius):
+    """EAP's cache: a session of TLS that is resumed has no login in the tunnel. Who pays may be
+    cached, and by which Class is not.
+    """
+    path, cache = (os.path.join(radius.raddb, "mods-available/eap"),
+                   os.path.join(radius.folder, "cache"))
+    os.mkdir(cache)
+    with open(path, encoding="utf-8") as file:
+        kept = file.read()
+    text = re.sub(r"(?s)(\n\t\tcache \{.*?)\n\t\t\tenable = no\n",
+                  lambda it: it[1] + CACHE.format(cache), kept, count=1)
+    for setting in ("no", "yes"):
+        line = f"use_tunneled_reply = {setting}"
+        front.written(path, text.replace("use_tunneled_reply = no", line))
+        radius.start()
+        for method in METHODS:
+            name, skipped = f"{line}, {' '.join(method)}", radius.said().count("kipping Phase2")
+            got = radius.login("al", *method, again=1)
+            check(f"resumed: {name}", radius.said().count("kipping Phase2"), skipped + 1)
+            check(f"is refused: {name}", got, None)
+    front.written(path, kept)
 
 
 def other_settings(radius):

@@ -39,7 +39,8 @@ LOGINS = {
     " it was withdrawn or ended",
     "Too many devices use this login now.": "as many as [the package](PACKAGES.md) has are logged in",
     "radacctd: the name '...' cannot be charged": "as above",
-    "radacctd: radacctd_login is missing in the inner tunnel": "do step 7 in the inner tunnel, too",
+    "radacctd: radacctd_login is missing in the inner tunnel, or EAP's cache leaves it out": "do step"
+    " 7 in the inner tunnel, too, and let `cache` have `enable = no` in the module of EAP",
     "radacctd: the other server says no other name than the outer one": "by `proxied = \"yes\"` that"
     " server is to say [who pays](#who-is-left-alone)",
     "radacctd: nothing proves the name": "EAP-TLS or EAP-PWD, by a name of somebody else",

@@ -460,6 +460,15 @@ class Sound(unittest.TestCase):
             found = list(fronts.steps(unittest.mock.Mock(has_pair=True, has_shards=False)))
         self.assertEqual(len([it for it in found if "does not include" in it.text]), 3)
 
+    def test_a_cache_of_eap_is_told(self):
+        """A session that it resumes has no login in the tunnel."""
+        inside = "server inner-tunnel {\npost-auth {\nradacctd_login\n}\n}\n"
+        self.put(inside, "sites-enabled", "inner-tunnel")
+        for word, wanted in (("no", []), ("yes", ["tunnel-login"])):
+            self.put(f"tls {{\ncache {{\nenable = {word}\nstore {{\n}}\n}}\nocsp {{\nenable = yes\n"
+                     "}\n}\npeap {\nvirtual_server = inner-tunnel\n}\n", "mods-enabled", "eap")
+            self.assertEqual([it.name for it in fronts.tunnel()], wanted)
+
     def test_a_tunnel_whose_file_has_another_name(self):
         self.put("tls {\n\tvirtual_server = x\n}\n", "mods-enabled", "eap")
         self.put("peap {\n\tvirtual_server = inner-tunnel\n}\n", "mods-enabled", "eap_staff")

@@ -95,7 +95,7 @@ WARNINGS = {
     "clock-unset": ("nothing keeps the clock", "install and start a service for NTP"),
     "file-old": ("a file of FreeRADIUS, nginx or systemd is not that of this version",
                  "`radacctl setup` makes it a link, and keeps what was there"),
-    "tunnel-login": ("PEAP or TTLS is on, and the inner tunnel has no radacctd_login",
+    "tunnel-login": ("PEAP or TTLS has a cache, or no radacctd_login in the inner tunnel",
                      "[step 7](FREERADIUS.md#set-it-up) in the inner tunnel"),
     "names-refused": ("accounts with a space cannot log in",
                       "[radacctd_filter](FREERADIUS.md#which-names-may-log-in)"),

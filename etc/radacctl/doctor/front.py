@@ -110,6 +110,11 @@ def tunnel():
         if not found or not all("radacctd_login" in it for it in found):
             yield Fault("tunnel-login", f"sites-enabled/{name} has no radacctd_login in post-auth: "
                         "logins by PEAP and TTLS are refused", f"step 7 of {PAGE}")
+    for name in freeradius.eaps() if freeradius.tunnels() else []:
+        found = freeradius.blocks("cache", freeradius.text(name))
+        if any(freeradius.value(block, "enable") == "yes" for _, block in found):
+            yield Fault("tunnel-login", f"{name} has a cache: logins that it resumes are refused",
+                        "write enable = no into its cache, and restart freeradius")
 
 
 def settings(kind):
