@@ -83,14 +83,16 @@ class Restore(unittest.TestCase):
     def test_a_copy_that_lost_a_file_on_its_way(self):
         """Without its log it is an older book, whose balances are right."""
         self.write("2026-11-26/sizes", "book 10\nbook-wal 3\n")
-        for log in (None, "l", "logs"):
-            if log:
+        for log in (None, "l", ""):
+            if log is not None:
                 self.write("2026-11-26/book-wal", log)
             status, said, book = self.restored("2026-11-26")
             self.assertEqual((status, book), (1, "now"), said)
             self.assertIn("2026-11-26 lacks book-wal 3 octets: take another copy", said)
-        self.write("2026-11-26/book-wal", "log")
-        self.assertEqual(self.restored("2026-11-26")[::2], (0, "2026-11-26"))
+        # A check may write behind the end of a log.
+        for log in ("log", "log and its end"):
+            self.write("2026-11-26/book-wal", log)
+            self.assertEqual(self.restored("2026-11-26")[::2], (0, "2026-11-26"))
         self.write("2026-11-26/book-wal", "")
         self.assertEqual(self.restored("--unsound", "2026-11-26")[::2], (0, "2026-11-26"))
 
