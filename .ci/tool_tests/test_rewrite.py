@@ -1,7 +1,9 @@
-"""A rewrite that a signal ends."""
+"""A rewrite that a signal ends, and what it leaves to the program."""
 
+import contextlib
 import os
 import signal
+import sqlite3
 import threading
 import time
 import unittest
@@ -44,6 +46,51 @@ class Place(Folder):
         with mock.patch.object(rewrite.time, "sleep"):
             it.place()
         self.assertEqual((it.is_placed, os.listdir(self.folder)), (True, ["file"]))
+
+
+class Fill(Folder):
+    """Pages get right sums from the program alone: it finds all rows in the log."""
+
+    def filled(self, has_sums):
+        """The octets of the new file before it is filled, and as the program finds it, its rows, and
+        the names in its folder.
+        """
+        it = rewrite.Rewrite.__new__(rewrite.Rewrite)
+        it.book, it.new_folder, it.has_sums = self.path, f"{self.folder}/new", has_sums
+        it.new = f"{it.new_folder}/book"
+        os.mkdir(it.new_folder)
+        for path in (it.book, it.new):
+            with contextlib.closing(sqlite3.connect(path)) as made:
+                made.execute("PRAGMA journal_mode = WAL")
+                for name in (*rows.FILLED, *rows.COPIED):
+                    made.execute(f"CREATE TABLE {name} (a, b)")
+                made.commit()
+                if path == it.book:
+                    made.executemany("INSERT INTO session VALUES (?, ?)",
+                                     [(at, "x" * 500) for at in range(2000)])
+                    made.commit()
+        before, found = self.octets(it.new), []
+        it.command = lambda *_: found.append(self.octets(it.new))
+        with mock.patch.object(rows, "say"):
+            it.fill()
+        with contextlib.closing(sqlite3.connect(it.new)) as opened:
+            names = sorted(os.listdir(it.new_folder))
+            count = opened.execute("SELECT count(*), sum(a) FROM session").fetchall()
+        return before, found, count, names
+
+    def octets(self, path):
+        with open(path, "rb") as file:
+            return file.read()
+
+    def test_with_sums_the_file_is_as_init_made_it_and_the_log_has_the_rows(self):
+        before, found, count, names = self.filled(True)
+        self.assertEqual((found, count), ([before], [(2000, 1_999_000)]))
+        self.assertEqual(names, ["book", "book-wal"])
+        self.assertLessEqual(set(names), set(rewrite.PARTS))
+
+    def test_without_sums_the_file_has_the_rows(self):
+        before, found, count, names = self.filled(False)
+        self.assertEqual((found, count, names), ([], [(2000, 1_999_000)], ["book"]))
 
 
 if __name__ == "__main__":
