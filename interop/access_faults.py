@@ -51,10 +51,12 @@ def planted(fault, files):
     return folder
 
 
-def each(run):
-    """Gives each fault to `run`, which returns the cases that see it, and prints them."""
+def each(run, path=PATH, text=""):
+    """Gives each fault to `run`, which returns what sees it, and prints that; or only those whose
+    name has a text.
+    """
     files = front.FILES
-    for fault in read():
+    for fault in [it for it in read(path) if text in it.name]:
         folder = planted(fault, files)
         front.FILES = front_stock.FILES = folder
         try:
@@ -62,5 +64,5 @@ def each(run):
         finally:
             front.FILES = front_stock.FILES = files
             shutil.rmtree(folder)
-        names = "; ".join(f"{it.number} {it.name}" for it in seen[:3])
+        names = "; ".join(map(str, seen[:3]))
         front.check(f"{fault.name}: seen by {len(seen)}, {names}", bool(seen), True)

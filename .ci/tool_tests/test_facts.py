@@ -17,10 +17,12 @@ from tool_tests import ROOT, script
 
 class Planted(unittest.TestCase):
     def test_each_fault_of_access_servers_still_fits(self):
-        """interop/access-servers --faults ends at the first one that does not."""
-        with open(os.path.join(ROOT, "interop", "access_servers", "faults"), encoding="utf-8") as file:
-            faults = re.split(r"\n(?=fault  )", file.read())[1:]
-        self.assertGreater(len(faults), 20)
+        """interop/access-servers and random-reports end at the first one that does not."""
+        faults = []
+        for path in ("access_servers/faults", "random.faults"):
+            with open(os.path.join(ROOT, "interop", path), encoding="utf-8") as file:
+                faults += re.split(r"\n(?=fault  )", file.read())[1:]
+        self.assertGreater(len(faults), 60)
         for fault in faults:
             [name, old] = re.search(r"(?s)\nfile   (.*?)\nold    (.*?)\nnew    ", fault).groups()
             with open(os.path.join(ROOT, "etc", "freeradius", name), encoding="utf-8") as file:
