@@ -15,7 +15,7 @@ from random_judge import mark_of
 from random_site import Asker, Site, Teller
 
 # How many reports are sent before they are compared, and at most to one site.
-EACH, MOST = 500, 3000
+EACH, MOST = 1500, 3000
 # How many differences are shrunk and printed for one site.
 SHOWN = 3
 # Marks of reports that are sent again to shrink them, beyond all others.
@@ -89,7 +89,7 @@ class Round:
         """Sends the next reports, and compares what became of them."""
         batch = [self.stream.next() for _ in range(count)]
         pairs = [(it.client.source, it.packet()) for it in batch]
-        self.teller.send(pairs, patience=2, tries=2)
+        self.teller.send(pairs, patience=1.5, tries=2)
         for it in {id(it): it for it in batch}.values():
             self.reports[it.mark] = it
             wanted = self.judge.wanted(it)
