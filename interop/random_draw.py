@@ -10,7 +10,7 @@ from random_model import (CLASS, DELAY, DEVICE, INPUT, NAME, OUTPUT, SERVICE, SE
 
 START, STOP, INTERIM = model.START, model.STOP, model.INTERIM
 PACKETS = (47, 48)
-EVENT = 55
+CAUSE, EVENT = 49, 55
 MARK = b"r"
 # The access servers: each setting alone, and some together.
 CLIENTS = [
@@ -42,7 +42,7 @@ CLASSES = [b"gold", b"silver", b"hour", b"free", b"up", b"default", "größe".en
            b"brass", b"ai:0011223344", b"\x00\xff\x01", b"OU=sales", b"0x676f6c64", b"x" * 253,
            b"gold\\", b"g;old", b"gold;", b"a'b", b"%{User-Name}", b"hour2"]
 LENGTHS = [1, 2, 3, 5, 6, 8, 16, 253]
-SIZED = [STATUS, DELAY, TIME, *INPUT[:2], *OUTPUT[:2], *PACKETS, 49, 8, 4, EVENT, SERVICE]
+SIZED = [STATUS, DELAY, TIME, *INPUT[:2], *OUTPUT[:2], *PACKETS, CAUSE, 8, 4, EVENT, SERVICE]
 STATUSES = [0, 4, 7, 8, 9, 10, 15, 16, 0xFFFF_FFFF]
 DELAYS = [0, 1, 60, 3 * model.DAY - 3600, 3 * model.DAY + 3600, 0x7FFF_FFFF, 0x8000_0000,
           0xFFFF_FFFF]
@@ -153,6 +153,8 @@ class Life:
             found += [(4, bytes([127, 5, 0, 1])), (8, bytes(rng.randbytes(4)))]
         if rng.random() < 0.3:
             found += [(DELAY, number(rng.choice([0, 1, 7, 600])))]
+        if status == STOP and rng.random() < 0.8:
+            found += [(CAUSE, number(rng.choice([1, 2, 5, 6, 11, 4_000_000])))]
         return found
 
 

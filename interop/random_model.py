@@ -169,6 +169,8 @@ class Reading:
         self.name, self.login, self.is_stamped = said.text(NAME), b"", False
         classes = said.texts(CLASS)
         self.plan = next((it for it in classes if it in PLANS), classes[0] if classes else None)
+        # A part of a stamp says so, too.
+        self.is_sold = any(b";radacctd;" in it for it in classes)
         stamps = [it for it in map(STAMP.match, classes) if it]
         cut = CUT.fullmatch(classes[0]) if classes and client.stamp != "no" else None
         if stamps:
@@ -210,7 +212,7 @@ def why_left_alone(reading):
         return "client"
     if said.number(SERVICE) in MANAGES:
         return "administrator"
-    if choices.proxied == "yes" or client.name == "books" or reading.is_stamped:
+    if choices.proxied == "yes" or client.name == "books" or reading.is_sold:
         return None
     realm = realm_of(said.text(NAME) or b"")
     if realm is None:
@@ -258,7 +260,9 @@ def judged(reading, status):
         return Outcome(NOWHERE, "held")
     if status == STOP and reading.is_paid_by_seconds() and said.number(TIME) is None:
         return Outcome(FILED, "no seconds")
-    if any((said.number(it) or 0) >= 1 << 30 for it in (INPUT[1], OUTPUT[1])):
+    # Where seconds are paid, they take the place of the octets.
+    large = any((said.number(it) or 0) >= 1 << 30 for it in (INPUT[1], OUTPUT[1]))
+    if large and not reading.is_paid_by_seconds():
         return Outcome(FILED, "2^62")
     limit = choices.limit()
     if limit is not None and (said.number(DELAY) or 0) > limit:
