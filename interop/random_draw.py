@@ -115,7 +115,7 @@ class Life:
         rng, kind = self.rng, self.rng.random()
         if kind < 0.15:
             return []
-        login = b"%016x" % rng.getrandbits(64) if self.client.stamp == "login" else b""
+        login = b"%032x" % rng.getrandbits(128) if self.client.stamp == "login" else b""
         plan = rng.choice([b"gold", b"gold", b"hour", b"free", b"default", b"brass", b"up"])
         stamp = b"%s;radacctd;%s;%s;" % (plan, login, quoted(self.sold()))
         if len(stamp) > 253 or kind < 0.45:

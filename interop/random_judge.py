@@ -6,6 +6,7 @@ import importlib.util
 import os
 import re
 import socket
+import time
 
 import front
 import random_model as model
@@ -101,13 +102,14 @@ class Ids:
 
 
 def are_one(one, other):
-    """Whether FreeRADIUS takes the names of two sessions for one, as kept-sessions says why. What
-    it makes of a device's name that has a backslash nobody says.
+    """Whether FreeRADIUS takes the names of two sessions for one, as kept-sessions says why. Of a
+    device's name it reads what is before an octet of 0, and what it makes of a backslash nobody says.
     """
-    if one[3] != other[3] and b"\\" in (one[3] or b"") + (other[3] or b""):
+    devices = [(it[3] or b"").partition(b"\0")[0] for it in (one, other)]
+    if b"\\" in b"".join(devices):
         return True
     spelled = [KEPT.key_of(it[0], it[1] or b"", it[2]) for it in (one, other)]
-    return spelled[0] == spelled[1] and one[4] == other[4] and (one[3] or b"") == (other[3] or b"")
+    return spelled[0] == spelled[1] and one[4] == other[4] and devices[0] == devices[1]
 
 
 class Judge:
@@ -129,7 +131,7 @@ class Judge:
         queues = self.site.queues()
         queued, filed, other = (it.of(report.mark) for it in queues)
         is_answered = packet in self.teller.answered
-        if is_answered != (wanted.what != SILENT):
+        if is_answered != (wanted.what != SILENT) and not is_elsewhere(report, is_answered):
             yield f"answered: {is_answered}, and must be {wanted.what}: {wanted.why}"
         found = {QUEUED: len(queued), FILED: len(filed)}
         for what, count in found.items():
@@ -178,8 +180,7 @@ class Judge:
 
     def seen(self, report, wanted, reply):
         """What modules behind radacctd_accounting see: name and plan that count, and its own id."""
-        own = dict(report.attributes[::-1])
-        if (own.get(model.NAME) or b"").lower().endswith(PROXIED):
+        if is_proxied(report):
             return
         mine = {model.NAME: wanted.payer, model.CLASS: wanted.record.get("Class"),
                 model.SESSION: wanted.key[1]}
@@ -215,6 +216,20 @@ def numbered(kind, value):
     return int.from_bytes(value, "big") if is_number else value
 
 
+def is_proxied(report):
+    """Whether another server gets the report, too, and answers it."""
+    name = dict(report.attributes[::-1]).get(model.NAME) or b""
+    return name.lower().endswith(PROXIED)
+
+
+def is_elsewhere(report, is_answered):
+    """Whether another server's answer is that of a report. FreeRADIUS cannot send on what has an
+    attribute of RFC 6929.
+    """
+    is_lost = not is_answered and any(kind > 240 for kind, _ in report.attributes)
+    return is_proxied(report) and (is_answered or is_lost)
+
+
 def plain(records):
     """Records without the moment in them, in an order."""
     return sorted(str((where, {name: it for name, it in record.items() if name not in MOMENTS}))
@@ -231,20 +246,20 @@ def line_of(report, wanted, queues):
     return f"{report.mark} {wanted.what}, {wanted.why}: {' '.join(found)}"
 
 
-def shrunk(report, fails):
+def shrunk(report, fails, patience=60):
     """The fewest attributes and the shortest values with which a report still fails."""
-    own = list(report.attributes)
+    own, end = list(report.attributes), time.monotonic() + patience
     at = 0
     while at < len(own):
         less = own[:at] + own[at + 1:]
-        if fails(less):
+        if time.monotonic() < end and fails(less):
             own = less
         else:
             at += 1
     for at, (kind, value) in enumerate(own):
         for other in shorter(kind, value):
             tried = [*own[:at], (kind, other), *own[at + 1:]]
-            if fails(tried):
+            if time.monotonic() < end and fails(tried):
                 own = tried
                 break
     return own

@@ -152,8 +152,8 @@ def stamp_faults(wanted, found):
     """How the Class of a reply differs: with a stamp it has plan, login and name, if they fit."""
     plan = wanted.reply.get(CLASS) or b"default"
     own = urllib.parse.quote(wanted.payer, safe="").encode()
-    login = b"[0-9a-f]{16}" if wanted.stamp == "login" else b""
-    length = len(b"%s;radacctd;;%s;" % (plan, own)) + (16 if login else 0)
+    login = b"[0-9a-f]{32}" if wanted.stamp == "login" else b""
+    length = len(b"%s;radacctd;;%s;" % (plan, own)) + (32 if login else 0)
     if length > 253:
         if found != wanted.reply.get(CLASS):
             yield f"its Class is {found}, and a stamp of {length} octets has no place"
@@ -251,7 +251,7 @@ class Round:
 
     def lines(self):
         """What became of each login; the login of a stamp is drawn by FreeRADIUS."""
-        return [model.re.sub(r";radacctd;[0-9a-f]{16};", ";radacctd;16;", it) for it in self.told]
+        return [model.re.sub(r";radacctd;[0-9a-f]{32};", ";radacctd;32;", it) for it in self.told]
 
     def end(self):
         self.site.end()

@@ -247,10 +247,13 @@ def judged(reading, status):
     """What becomes of a Start, a Stop or an Interim-Update of a session that is sold."""
     said, choices = reading.said, reading.choices
     wrong = said.wrong(MOVES_MONEY | ({TIME} if reading.is_paid_by_seconds() else set()))
+    no_seconds = (status == STOP and reading.is_paid_by_seconds()
+                  and said.number(TIME) is None)
     if not reading.name or said.text(SESSION) is None:
         if wrong:
             return Outcome(FILED, "nobody, wrong length", wrong=wrong)
-        return Outcome(FILED, "nobody") if reading.moves_money() else Outcome(NOWHERE, "nobody")
+        is_money = reading.moves_money() or no_seconds
+        return Outcome(FILED if is_money else NOWHERE, "nobody")
     if reading.client.services == "no" and said.is_service():
         return Outcome(NOWHERE, "service")
     if wrong:
@@ -258,7 +261,7 @@ def judged(reading, status):
     if (status == START and reading.plan is None and choices.hold == "yes"
             and not reading.moves_money()):
         return Outcome(NOWHERE, "held")
-    if status == STOP and reading.is_paid_by_seconds() and said.number(TIME) is None:
+    if no_seconds:
         return Outcome(FILED, "no seconds")
     # Where seconds are paid, they take the place of the octets.
     large = any((said.number(it) or 0) >= 1 << 30 for it in (INPUT[1], OUTPUT[1]))

@@ -3,6 +3,7 @@
 import collections
 import dataclasses
 import random
+import re
 import time
 
 import front
@@ -16,8 +17,9 @@ from random_site import Asker, Site, Teller
 
 # How many reports are sent before they are compared, and at most to one site.
 EACH, MOST = 1500, 3000
-# How many differences are shrunk and printed for one site.
-SHOWN = 3
+# How many kinds of differences are shrunk and printed for one site.
+SHOWN = 6
+VALUES = re.compile(r"b'[^']*'|b\"[^\"]*\"|\d+")
 # Marks of reports that are sent again to shrink them, beyond all others.
 AGAIN = 1_000_000
 
@@ -53,7 +55,7 @@ class Round:
         self.judge = random_judge.Judge(self.site, self.teller, self.remembered, accounts)
         self.stream = draw.Stream(self.rng)
         self.reports, self.kinds, self.failed = {}, collections.Counter(), []
-        self.shown, self.plain = 0, plain
+        self.shown, self.plain = set(), plain
 
     def run(self, count, end):
         """Sends up to so many reports, until a moment, and compares."""
@@ -106,12 +108,8 @@ class Round:
                 print(f"   late: {report.shown()[:200]}", flush=True)
                 return
         self.failed.append(report)
-        if self.shown >= SHOWN:
+        if not self.is_new(report, faults):
             return
-        self.shown += 1
-        print(f"FAILED  {report.shown()}")
-        for it in faults:
-            print(f"         {it}")
         if self.plain or not self.again(report, report.attributes):
             print("         not again", flush=True)
             return
@@ -120,6 +118,16 @@ class Round:
         print(f"   shrunk: --again '{small.shown()}'")
         for it in self.again(report, own):
             print(f"         {it}", flush=True)
+
+    def is_new(self, report, faults):
+        """Prints a report, if none failed like it before."""
+        kind = VALUES.sub("", " ".join(faults))
+        if kind in self.shown or len(self.shown) >= SHOWN:
+            return False
+        self.shown.add(kind)
+        print("FAILED ", report.shown())
+        print(*(f"         {it}" for it in faults), sep="\n", flush=True)
+        return True
 
     def again(self, report, attributes):
         """What is wrong if these attributes are sent, alone."""
@@ -196,10 +204,7 @@ class Round:
             faults = list(self.judge.at_the_book(it, by_mark.get(it.mark, []), most))
             if faults:
                 self.failed.append(it)
-            if faults and self.shown < SHOWN:
-                self.shown += 1
-                print("FAILED ", it.shown())
-                print(*(f"         {fault}" for fault in faults), sep="\n", flush=True)
+                self.is_new(it, faults)
 
     def lines(self):
         queues = self.site.queues()

@@ -31,7 +31,8 @@ home_server away {{
 	ipaddr = 127.0.0.1
 	port = {port}
 	secret = {secret}
-	status_check = none
+	status_check = none, response_window = 3
+	response_timeouts = 1000, zombie_period = 5, revive_interval = 10
 }}
 home_server_pool away {{
 	type = fail-over
@@ -57,7 +58,7 @@ realm short.example {{
 home_server cut {{
 	type = coa
 	ipaddr = {cut}
-	port = {cut_port}
+	port = {coa}
 	secret = {secret}
 	coa {{
 		irt = 2, mrt = 8, mrc = 3, mrd = 15
@@ -78,6 +79,7 @@ server default {{
 		pap
 	}}
 	authenticate {{
+		eap
 		pap
 	}}
 	post-auth {{
@@ -102,6 +104,8 @@ server default {{
 	}}
 }}
 """
+# FreeRADIUS sends Disconnect-Requests there.
+COA_PORT = 3799
 NO_READERS = "# What is queued stays, so that it can be read.\n"
 # To a login Access-Accept, to a report, and to a Disconnect-Request.
 ANSWERS = {1: 2, 4: 5, 40: 41}
@@ -110,7 +114,7 @@ ANSWERS = {1: 2, 4: 5, 40: 41}
 class Ear(threading.Thread):
     """Takes requests at some ports of an address, remembers their attributes, and answers them."""
 
-    def __init__(self, secret, count=1, address="127.0.0.1"):
+    def __init__(self, secret, count=1, address=("127.0.0.1", 0)):
         super().__init__(daemon=True)
         self.secret, self.heard, self.is_over = secret.encode(), [], False
         self.sockets = neighbours(count, address)
@@ -134,18 +138,20 @@ class Ear(threading.Thread):
 
 
 def neighbours(count, address):
-    """Sockets at free ports of an address, one behind the other."""
-    while True:
+    """Sockets at this port of an address, or at free ones, one behind the other."""
+    for _ in range(20):
         found = [socket.socket(socket.AF_INET, socket.SOCK_DGRAM) for _ in range(count)]
         try:
-            found[0].bind((address, 0))
+            found[0].bind(address)
             first = found[0].getsockname()[1]
             for more, opened in enumerate(found[1:], 1):
-                opened.bind((address, first + more))
+                opened.bind((address[0], first + more))
             return found
         except OSError:
             for opened in found:
                 opened.close()
+            time.sleep(0.5)
+    raise SystemExit(f"{address} is not free")
 
 
 class Site(front.FreeRadius):
@@ -155,15 +161,16 @@ class Site(front.FreeRadius):
         self.choices = choices
         [cuts] = [it for it in draw.CLIENTS if it.cut == "yes"]
         self.book, self.home = Ear(BOOK_SECRET), Ear(SECRET, 2)
-        self.cut = Ear(SECRET, 1, cuts.source)
+        self.cut = Ear(SECRET, 1, (cuts.source, COA_PORT))
         clients = "".join(it.lines(SECRET) for it in draw.CLIENTS)
-        more = HOMES.format(port=self.home.port, secret=SECRET, cut=cuts.source,
-                            cut_port=self.cut.port) + (PAIR if choices.pair else "")
+        more = HOMES.format(port=self.home.port, secret=SECRET, cut=cuts.source, coa=COA_PORT)
+        more += PAIR if choices.pair else ""
         book = types.SimpleNamespace(radius=self.book.port)
         super().__init__(folder, book, lines_of(choices), clients, more)
         self.mirrored(accounts)
         self.queue_of = Queue(self.queue), Queue(self.unsent)
         self.other = Queue(os.path.join(folder, "radacct", "radacctd-other"))
+        os.makedirs(self.other.folder)
 
     def write_files(self, book, settings):
         super().write_files(book, settings)
@@ -177,6 +184,12 @@ class Site(front.FreeRadius):
         written(self.path("radiusd.conf"), text.replace("reject_delay = 0", most))
         with open(SHARDS, encoding="utf-8") as file:
             written(self.path("policy.d/radacctd-shards"), file.read())
+
+    def start(self):
+        done = self.is_right()
+        if done.returncode:
+            raise SystemExit(done.stdout[-1500:] + done.stderr)
+        super().start()
 
     def path(self, name):
         return os.path.join(self.raddb, name)
@@ -219,6 +232,9 @@ class Site(front.FreeRadius):
         super().end()
         for it in (self.book, self.home, self.cut):
             it.is_over = True
+            it.join()
+            for opened in it.sockets:
+                opened.close()
 
 
 def shown(name):
