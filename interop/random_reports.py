@@ -163,6 +163,8 @@ class Round:
             if mark in wanted:
                 asked[wanted[mark].key] += 1
                 own = dict(self.reports[mark].attributes[::-1])
+                # As the access server knows the session, or by who pays.
+                own[model.NAME] = own.get(model.NAME) or wanted[mark].payer
                 for kind in (model.NAME, model.SESSION):
                     if found.get(kind) != own[kind]:
                         self.cut_fails(self.reports[mark], f"{kind} is {found.get(kind)}")

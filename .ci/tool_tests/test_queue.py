@@ -65,6 +65,14 @@ class Queue(Folder):
                     self.assertEqual(file.read(), f"{why}: {over} until this is over\n")
                 os.remove(file.name)
 
+    def test_what_cannot_be_dated_waits_if_there_is_a_limit(self):
+        """However its number of days is written."""
+        for limit, wanted in (("60", "wait"), ("060", "wait"), ("0", "7"), ("x", "7"),
+                              ("50000", "7")):
+            with self.subTest(limit):
+                queued = f"another-boot/1.000 1000 {limit}"
+                self.assertEqual(self.called("delay", "book", "7", queued), wanted)
+
 
 if __name__ == "__main__":
     unittest.main()
