@@ -1,6 +1,7 @@
 """Draws what interop/random-reports sends: sites, sessions, and reports with values that hurt."""
 
 import copy
+import dataclasses
 import urllib.parse
 
 import random_model as model
@@ -49,6 +50,12 @@ DELAYS = [0, 1, 60, 3 * model.DAY - 3600, 3 * model.DAY + 3600, 0x7FFF_FFFF, 0x8
 MOMENTS = [0, 1, 1_767_225_600, 0x7FFF_FFFF, 0xFFFF_FFFF]
 COUNTS = [0, 1, 1 << 20, (1 << 32) - 1, 1 << 31]
 GIGAWORDS = [0, 1, 7, (1 << 30) - 1, 1 << 30, (1 << 32) - 1]
+
+
+def moved(net):
+    """Moves the access servers to 127.NET.0.0/16, so that two runs may go on at once."""
+    CLIENTS[:] = [dataclasses.replace(it, source=f"127.{net}.{it.source.partition('.5.')[2]}")
+                  for it in CLIENTS]
 
 
 def number(value):

@@ -160,7 +160,8 @@ class Judge:
             yield from self.places(wanted, where)
         mine = dict(wanted.record)
         if self.site.choices.shards:
-            mine["Tmp-String-8"] = BOOK_OF(wanted.payer or b"").encode()
+            found = record.get("Tmp-String-8", b"").decode("latin-1")
+            mine["Tmp-String-8"] = book_of(wanted.payer, found).encode()
         own = {name for name in record if name.startswith("Attr-")}
         wrong = {(int(it.removeprefix("Attr-")), record.pop(it)) for it in own}
         if bool(wrong) != bool(wanted.wrong) or not wrong <= set(wanted.wrong):
@@ -173,7 +174,7 @@ class Judge:
         """Whether a report is with a reader that there is, or with its book."""
         choices = self.site.choices
         if choices.shards:
-            if where != BOOK_OF(wanted.payer):
+            if where != book_of(wanted.payer, where):
                 yield f"it is queued for {where}"
         elif where not in [f"reader-{it}" for it in range(choices.readers)]:
             yield f"it is in {where}"
@@ -228,6 +229,11 @@ def is_elsewhere(report, is_answered):
     """
     is_lost = not is_answered and any(kind > 240 for kind, _ in report.attributes)
     return is_proxied(report) and (is_answered or is_lost)
+
+
+def book_of(payer, found):
+    """The book of an account of 16. A name with an octet of 0 nobody sells to: any book is right."""
+    return found if b"\0" in (payer or b"") else BOOK_OF(payer or b"")
 
 
 def plain(records):

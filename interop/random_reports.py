@@ -64,6 +64,9 @@ class Round:
         self.log_in()
         while len(self.reports) < count and time.monotonic() < end:
             self.send(min(EACH, count - len(self.reports)))
+            # A planted fault need be seen only once.
+            if self.plain and self.failed:
+                return
         self.counts()
         self.cuts()
         if not self.choices.shards:
