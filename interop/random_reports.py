@@ -55,7 +55,7 @@ class Round:
         self.judge = random_judge.Judge(self.site, self.teller, self.remembered, accounts)
         self.stream = draw.Stream(self.rng)
         self.reports, self.kinds, self.failed = {}, collections.Counter(), []
-        self.shown, self.plain = set(), plain
+        self.shown, self.plain, self.tried = set(), plain, 0
 
     def run(self, count, end):
         """Sends up to so many reports, until a moment, and compares."""
@@ -113,7 +113,7 @@ class Round:
         self.failed.append(report)
         if not self.is_new(report, faults):
             return
-        if self.plain or not self.again(report, report.attributes):
+        if not self.again(report, report.attributes):
             print("         not again", flush=True)
             return
         own = random_judge.shrunk(report, lambda tried: self.again(report, tried))
@@ -128,14 +128,15 @@ class Round:
         if kind in self.shown or len(self.shown) >= SHOWN:
             return False
         self.shown.add(kind)
-        print("FAILED ", report.shown())
-        print(*(f"         {it}" for it in faults), sep="\n", flush=True)
-        return True
+        if not self.plain:
+            print("FAILED ", report.shown())
+            print(*(f"         {it}" for it in faults), sep="\n", flush=True)
+        return not self.plain
 
     def again(self, report, attributes):
         """What is wrong if these attributes are sent, alone."""
-        self.stream.mark += 1
-        tried = Report(report.client, attributes, AGAIN + self.stream.mark)
+        self.tried += 1
+        tried = Report(report.client, attributes, AGAIN + self.tried)
         self.teller.send([(tried.client.source, tried.packet())], patience=1, tries=3)
         return list(self.judge.faults(tried))
 
