@@ -134,6 +134,25 @@ class Installation(unittest.TestCase):
         self.assertIn('put_folder etc/radacctl "$libexec/radacctl"', text("bin", "install"))
 
 
+class Purge(unittest.TestCase):
+    """It removes the folder of the balances, unless something else is in there."""
+
+    def test_nothing_is_left_that_16_books_write_there(self):
+        unit = text("etc", "shards", "radacctd@.service").replace("%i-\n", "%i-plans.csv\n")
+        names = {f"s7{it}" for it in re.findall(r"%i(\S*[.]csv)", unit)}
+        self.assertEqual(names, {"s7.csv", "s7-plans.csv", "s7-place.csv"})
+        with tempfile.TemporaryDirectory() as folder:
+            script = text("etc", "package", "postrm").replace("/var/lib", folder)
+            balances = f"{folder}/radacctd-balances"
+            os.mkdir(balances)
+            for name in (*names, "s7-plans.json", "s7.csv.12new", "plans.csv"):
+                with open(f"{balances}/{name}", "w", encoding="ascii"):
+                    pass
+            script = script.replace("[ -d /run/systemd/system ]", "false")
+            subprocess.run(["sh", "-c", script, "postrm", "purge"], check=True)
+            self.assertEqual(os.listdir(folder), [])
+
+
 class Removal(unittest.TestCase):
     """While nginx, fail2ban or FreeRADIUS has links into the package, nothing is removed."""
 
