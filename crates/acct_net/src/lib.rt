@@ -3,6 +3,7 @@
 
 mod datagrams;
 mod desk;
+mod event_loop;
 mod readiness;
 mod sockets;
 

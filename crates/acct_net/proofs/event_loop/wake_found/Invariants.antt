@@ -1,5 +1,5 @@
 use Rattle.std.proofs.Common.{◌≡◌}
-use Rattle.acct_net.proofs.sockets.wake_found.Given as goal
+use Rattle.acct_net.proofs.event_loop.wake_found.Given as goal
 
 -- To wake a socket is no receive.
 abbrev pub invariant-loop-event : goal.invariant-loop-event
