@@ -16,7 +16,7 @@ ghost use Rattle.acct_net.specs.inner.Places.{IsEarlier, IsServed, accepted_at};
 ghost use Rattle.std.specs.Time.{instant_nanos};
 ghost use Rattle.acct_net.specs.inner.Turns.{in_turn};
 ghost use Rattle.std.specs.List.{All, HoldsAt, position};
-ghost use Rattle.std.specs.Prelude.{◌<◌, ℕ, IfNone, IsSome, is_none, length, replicate};
+ghost use Rattle.std.specs.Prelude.{◌<◌, ◌-◌, ◌^◌, ℕ, IfNone, IsSome, is_none, length, replicate};
 
 use crate::readiness::Readiness;
 use acct_model::Octets;
@@ -72,6 +72,8 @@ pub struct Desk<R: Net> {
     places: Vec<Option<Caller<R::Stream>>>,
     next: usize,
     unanswered: Option<usize>,
+    // How often callers were served.
+    serves: u64,
 }
 
 impl<R: Net> Drop for Desk<R> {
@@ -84,6 +86,7 @@ impl<R: Net> Drop for Desk<R> {
             places: _,
             next: _,
             unanswered: _,
+            serves: _,
         } = self;
     }
 }
@@ -101,6 +104,7 @@ impl<R: Net> Desk<R> {
         ensures port { IfOk result (λ desk. desk.door.port ≡ port) }
         ensures places { IfOk result (λ desk. desk.places.items ≡ replicate PLACES None) }
         ensures first { IfOk result (λ desk. (desk.is_full ≡ false) × (desk.next ≡ 0)) }
+        ensures serves { IfOk result (λ desk. desk.serves ≡ 0) }
     {
         let door = opened(runtime, address, port)?;
         let mut places = Vec::with_capacity(alloc, PLACES)?;
@@ -115,6 +119,7 @@ impl<R: Net> Desk<R> {
             places,
             next: 0,
             unanswered: None,
+            serves: 0,
         })
     }
 
@@ -157,7 +162,7 @@ impl<R: Net> Desk<R> {
     }
 
     /// Serves the callers until the request of one is there, and gives it. That caller, which sent
-    /// it, then awaits its response.
+    /// it, then awaits its response. It counts how often it is called.
     ///
     /// # Errors
     ///
@@ -169,9 +174,12 @@ impl<R: Net> Desk<R> {
         buffer: &mut [u8],
         now: Instant,
     ) -> Result<Option<Octets>, Fault>
-        ensures { IfOk result (λ request. IfSome request
+        requires { self.old.serves < 2 ^ 64 - 1 }
+        ensures serves { self.new.serves ≡ self.old.serves + 1 }
+        ensures some { IfOk result (λ request. IfSome request
             (IsWaiting self.new.unanswered self.new.places.items)) }
     {
+        self.serves += 1;
         if let Some(place) = self.late_place(now) {
             self.close_at(place)?;
         }
@@ -315,8 +323,14 @@ impl<R: Net> Desk<R> {
 
     // Serves callers that are ready, until the request of one is there.
     fn serve_ready(&mut self, buffer: &mut [u8], now: Instant) -> Result<Option<Octets>, Fault>
-        ensures { IfOk result (λ request. IfSome request
+        ensures some { IfOk result (λ request. IfSome request
             (IsWaiting self.new.unanswered self.new.places.items)) }
+        ensures other { self.new ≡ record self.old {
+          is_full = self.new.is_full;
+          places = self.new.places;
+          next = self.new.next;
+          unanswered = self.new.unanswered;
+        } }
     {
         for _ in 0..STEPS_OF_A_TURN {
             match self.serve_next(buffer, now)? {
@@ -339,6 +353,12 @@ impl<R: Net> Desk<R> {
         ensures somebody { IsSome (in_turn has_ready self.old.places.items self.old.next)
             → result ≢ Ok Served.Nobody }
         ensures waiting { IfOk result (IsServed self.new.unanswered self.new.places.items) }
+        ensures other { self.new ≡ record self.old {
+          is_full = self.new.is_full;
+          places = self.new.places;
+          next = self.new.next;
+          unanswered = self.new.unanswered;
+        } }
     {
         let Some(place) = self.ready_place() else {
             return Ok(Served::Nobody);

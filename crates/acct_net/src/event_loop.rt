@@ -11,7 +11,7 @@
 //!    addresses take turns.
 //! 5. The buffer for a datagram is allocated once, and not for each turn.
 ghost use Rattle.std.specs.Prelude.{◌≡◌, ◌+◌, ◌-◌, ◌<◌, ◌^◌, false, None, IfOk, IfSome, OnOk, take};
-ghost use Rattle.std.specs.Prelude.{◌≤◌, ◌⊎◌, IsTrue, OnErr, length, not, slice_get, true};
+ghost use Rattle.std.specs.Prelude.{◌≤◌, ◌⊎◌, IsErr, IsTrue, OnErr, length, not, slice_get, true};
 ghost use Rattle.std.specs.List.{All, list_any};
 ghost use Rattle.mio.specs.Events.{items};
 ghost use Rattle.acct_net.specs.inner.Places.{HasReady, IsAnswered, IsOfUnanswered, IsWoken};
@@ -127,10 +127,22 @@ impl<'r, R: Net + Clock> EventLoop<'r, R> {
     pub fn next_event(&mut self) -> Result<Option<Event>, Fault>
         requires waits { self.old.readiness.waits < 2 ^ 64 - 1 }
         requires receives { self.old.datagrams.receives < 2 ^ 64 - 1 }
+        requires serves { self.old.desk.serves < 2 ^ 64 - 1 }
         ensures receives { self.new.datagrams.receives ≤ self.old.datagrams.receives + 1 }
-        ensures fault { OnErr result (IsTrue self.new.readiness.has_failed
+        ensures serves { self.new.desk.serves ≤ self.old.desk.serves + 1 }
+        // Datagrams are looked for in each turn but those of callers. After one of those, they are
+        // first.
+        ensures datagrams { IsTrue self.new.readiness.has_failed
             ⊎ ((self.new.datagrams.receives ≡ self.old.datagrams.receives + 1)
-            ⊎ ((self.old.are_callers_first ≡ true) × (self.new.are_callers_first ≡ false)))) }
+            ⊎ ((self.old.are_callers_first ≡ true) × (self.new.are_callers_first ≡ false))) }
+        // Callers are served in each turn but those of datagrams. After one of those, they are first.
+        ensures callers { IsTrue self.new.readiness.has_failed
+            ⊎ ((self.new.readiness.time ≡ None)
+            ⊎ ((self.new.desk.serves ≡ self.old.desk.serves + 1)
+            ⊎ ((self.old.are_callers_first ≡ false) × (self.new.are_callers_first ≡ true)))) }
+        ensures quiet { IfOk result (λ event. event ≡ None
+            → (self.new.datagrams.receives ≡ self.old.datagrams.receives + 1)
+            × (self.new.desk.serves ≡ self.old.desk.serves + 1)) }
         ensures waits { self.new.readiness.waits ≡ self.old.readiness.waits + 1 }
         ensures idle { IfOk result (λ event. event ≡ None → list_any (λ socket. socket.may_receive)
             self.new.datagrams.sockets.items ≡ false) }
@@ -168,7 +180,13 @@ impl<'r, R: Net + Clock> EventLoop<'r, R> {
         requires { self.old.readiness.waits < 2 ^ 64 - 1 }
         ensures waits { self.new.readiness.waits ≡ self.old.readiness.waits + 1 }
         ensures turn { self.new.are_callers_first ≡ self.old.are_callers_first }
-        ensures receives { self.new.datagrams.receives ≡ self.old.datagrams.receives }
+        ensures other_datagrams { self.new.datagrams ≡ record self.old.datagrams {
+          sockets = self.new.datagrams.sockets;
+        } }
+        ensures other_desk { self.new.desk ≡ record self.old.desk {
+          may_accept = self.new.desk.may_accept;
+          places = self.new.desk.places;
+        } }
         ensures fault { OnErr result (IsTrue self.new.readiness.has_failed) }
         ensures most { self.new.readiness.most ≤ MOST_WAIT }
         ensures datagrams { list_any (λ socket. socket.may_receive)
@@ -182,7 +200,7 @@ impl<'r, R: Net + Clock> EventLoop<'r, R> {
             × (self.new.desk.may_accept ≡ true)) }
     {
         let most = self.most_wait();
-        self.readiness.wait(most).map_err(|_| Fault)?;
+        self.readiness.wait(self.runtime, most).map_err(|_| Fault)?;
         if self.readiness.has_found_none() {
             self.datagrams.wake_all();
             self.desk.wake_listener();
@@ -210,7 +228,11 @@ impl<'r, R: Net + Clock> EventLoop<'r, R> {
 
     // The request of a caller, if one is there now.
     fn next_request(&mut self) -> Result<Option<Event>, Fault>
-        ensures waits { self.new.readiness.waits ≡ self.old.readiness.waits }
+        requires { self.old.desk.serves < 2 ^ 64 - 1 }
+        ensures serves { (self.new.desk.serves ≡ self.old.desk.serves + 1)
+            ⊎ ((self.new.desk ≡ self.old.desk) × (self.new.readiness.time ≡ None)
+            × IsErr result) }
+        ensures readiness { self.new.readiness ≡ self.old.readiness }
         ensures datagrams { self.new.datagrams ≡ self.old.datagrams }
         ensures asked { IfOk result (λ event. IfSome event (λ it.
             IsOfUnanswered self.new.desk.unanswered self.new.desk.places.items it.what)) }
@@ -219,7 +241,7 @@ impl<'r, R: Net + Clock> EventLoop<'r, R> {
             it.what)) }
         ensures kind { IfOk result (λ event. IfSome event (λ it. is_request it.what ≡ true)) }
     {
-        let now = Instant::now(self.runtime).map_err(|_| Fault)?;
+        let now = self.readiness.time().ok_or(Fault)?;
         let request = self
             .desk
             .serve(&self.readiness, self.buffer.as_mut_slice(), now)?;
@@ -233,7 +255,8 @@ impl<'r, R: Net + Clock> EventLoop<'r, R> {
     fn next_datagram(&mut self) -> Result<Option<Event>, Fault>
         requires { self.old.datagrams.receives < 2 ^ 64 - 1 }
         ensures receives { self.new.datagrams.receives ≡ self.old.datagrams.receives + 1 }
-        ensures waits { self.new.readiness.waits ≡ self.old.readiness.waits }
+        ensures readiness { self.new.readiness ≡ self.old.readiness }
+        ensures desk { self.new.desk ≡ self.old.desk }
         ensures asked { IfOk result (λ event. IfSome event (λ it.
             IsOfUnanswered self.new.desk.unanswered self.new.desk.places.items it.what)) }
         ensures received { IfOk result (λ event. IfSome event (λ it. IsReceived
@@ -278,6 +301,7 @@ impl<'r, R: Net + Clock> EventLoop<'r, R> {
     pub fn send(&mut self, what: &What, bytes: &[u8]) -> Result<(), Fault>
         ensures waits { self.new.readiness.waits ≡ self.old.readiness.waits }
         ensures receives { self.new.datagrams.receives ≡ self.old.datagrams.receives }
+        ensures serves { self.new.desk.serves ≡ self.old.desk.serves }
         ensures answered { OnOk result (IsAnswered R.Stream.contents what.now
             self.old.desk.unanswered self.old.desk.places.items self.new.desk.places.items
             bytes.now) }
@@ -299,7 +323,11 @@ impl<'r, R: Net + Clock> EventLoop<'r, R> {
 
 // Wakes what the last wait found ready.
 fn wake_found<R: Net>(readiness: &Readiness, datagrams: &mut Datagrams, desk: &mut Desk<R>)
-    ensures { datagrams.new.receives ≡ datagrams.old.receives }
+    ensures datagrams { datagrams.new ≡ record datagrams.old { sockets = datagrams.new.sockets } }
+    ensures desk { desk.new ≡ record desk.old {
+      may_accept = desk.new.may_accept;
+      places = desk.new.places;
+    } }
 {
     for event in readiness.events() {
         wake(datagrams, desk, event.token().0);
@@ -314,7 +342,13 @@ fn wake<R: Net>(datagrams: &mut Datagrams, desk: &mut Desk<R>, number: usize)
         × (datagrams.new ≡ datagrams.old) }
     ensures caller { number < LISTENER → IsWoken (slice_get desk.old.places.items number) number
         desk.old.places.items desk.new.places.items × (datagrams.new ≡ datagrams.old) }
-    ensures receives { datagrams.new.receives ≡ datagrams.old.receives }
+    ensures other_datagrams { datagrams.new ≡ record datagrams.old {
+      sockets = datagrams.new.sockets;
+    } }
+    ensures other_desk { desk.new ≡ record desk.old {
+      may_accept = desk.new.may_accept;
+      places = desk.new.places;
+    } }
 {
     match number {
         LISTENER => desk.wake_listener(),

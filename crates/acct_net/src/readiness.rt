@@ -8,7 +8,7 @@ use std::alloc::Global;
 use std::io;
 use std::net::Net;
 use std::os::fd::AsRawFd;
-use std::time::Duration;
+use std::time::{Clock, Duration, Instant};
 
 /// The sockets that are watched, each under a number, and those of them that were last found ready.
 /// A socket is found ready once, as it becomes so: it is to be used until it would block.
@@ -20,6 +20,8 @@ pub struct Readiness {
     waits: u64,
     most: u64,
     has_failed: bool,
+    // What the clock said as it ended, if it could be read.
+    time: Option<Instant>,
 }
 
 impl Readiness {
@@ -37,6 +39,7 @@ impl Readiness {
             waits: 0,
             most: 0,
             has_failed: false,
+            time: None,
         })
     }
 
@@ -70,13 +73,14 @@ impl Readiness {
             .register(&mut SourceFd(&descriptor), Token(number), interest)
     }
 
-    /// Waits until a socket is ready, but no longer than so many milliseconds. It counts its waits.
-    /// No contract of the system says how long it waits: that it is given `most` is read by eye.
+    /// Waits until a socket is ready, but no longer than so many milliseconds, and then reads the
+    /// clock. It counts its waits. No contract of the system says how long it waits, or what the
+    /// clock said: that it is given `most`, and that the time is the clock's, is read by eye.
     ///
     /// # Errors
     ///
     /// Those of the system.
-    pub fn wait(&mut self, most: u64) -> io::Result<()>
+    pub fn wait<R: Clock>(&mut self, runtime: &R, most: u64) -> io::Result<()>
         requires { self.old.waits < 2 ^ 64 - 1 }
         ensures waits { self.new.waits ≡ self.old.waits + 1 }
         ensures most { self.new.most ≡ most }
@@ -88,7 +92,15 @@ impl Readiness {
             .poll
             .poll(&mut self.events, Some(Duration::from_millis(most)));
         self.has_failed = waited.is_err();
+        self.time = Instant::now(runtime).ok();
         waited
+    }
+
+    /// The time at which the last wait ended, if the clock could be read.
+    pub fn time(&self) -> Option<Instant>
+        ensures { result ≡ self.now.time }
+    {
+        self.time
     }
 
     /// Whether the last wait was given time, and found no socket ready.

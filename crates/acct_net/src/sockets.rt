@@ -30,6 +30,7 @@ pub struct Sockets<'r, R: Net> {
     silenced: Option<&'r Cell<bool>>,
     ghost waited: { event_loop.readiness.waits ≡ turns },
     ghost received: { event_loop.datagrams.receives ≤ turns },
+    ghost served: { event_loop.desk.serves ≤ turns },
 }
 
 impl<'r, R: Net> Drop for Sockets<'r, R> {

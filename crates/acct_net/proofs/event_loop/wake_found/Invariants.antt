@@ -1,6 +1,7 @@
 use Rattle.std.proofs.Common.{◌≡◌}
 use Rattle.acct_net.proofs.event_loop.wake_found.Given as goal
 
--- To wake a socket is no receive.
+-- So far only what may wait where has changed.
 abbrev pub invariant-loop-event : goal.invariant-loop-event
-invariant-loop-event g l = l.datagrams.receives ≡ l.fn.datagrams.receives
+invariant-loop-event g l = (l.datagrams ≡ record l.fn.datagrams { sockets = l.datagrams.sockets })
+    × (l.desk ≡ record l.fn.desk { may_accept = l.desk.may_accept; places = l.desk.places })
