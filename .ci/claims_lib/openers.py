@@ -112,12 +112,13 @@ BY_EYE = (
     (
         "crates/acct_net/src/datagrams.rt",
         "RadiusSocket::receive",
-        "the size and the source that are kept beside the socket are those that the system gave",
+        "it keeps beside the socket what the system gave: the size and the source of a datagram,"
+        " none, or a fault",
     ),
     (
         "crates/acct_net/src/datagrams.rt",
         "RadiusSocket::send",
-        "so are the size and the target of what was sent",
+        "and so the outcome of a send, and where to",
     ),
     ("crates/acct_net/src/datagrams.rt", "send_waiting", "it sends the octets that it is given"),
 )

@@ -7,11 +7,11 @@
 //! 3. A receive that would block found nothing. Each other one that gives no datagram is a fault,
 //!    also if a signal interrupted it.
 ghost use Rattle.std.specs.Prelude.{◌≡◌, ◌<◌, ◌-◌, ◌^◌, true, false, length, slice_get, slice_set};
-ghost use Rattle.std.specs.Prelude.{MatchOption, OnOk, is_some};
+ghost use Rattle.std.specs.Prelude.{IsSome, OnErr, OnOk, is_some};
 ghost use Rattle.std.specs.Prelude.{◌↔◌, ◌+◌, IfOk, IfSome, IsErrAnd, IsOkAnd};
 ghost use Rattle.std.specs.List.{All, list_any, position};
 ghost use Rattle.acct_net.specs.Bound.{AreBoundAt};
-ghost use Rattle.acct_net.specs.inner.RadiusSockets.{MayReceiveAt, HasReceived, HasSent};
+ghost use Rattle.acct_net.specs.inner.RadiusSockets.{MayReceiveAt, HasReceived, HasSent, HasNotSent};
 ghost use Rattle.acct_net.specs.inner.RadiusSockets.{IsWokenAt};
 ghost use Rattle.acct_net.specs.inner.Turns.{in_turn};
 ghost use Rattle.std.specs.IoError.{error_kind};
@@ -41,16 +41,17 @@ impl Drop for Datagrams {
     }
 }
 
-// A socket for datagrams, where it is bound, whether a datagram may wait there, the size and the
-// source of the one that the last receive gave, and the size and the target of the last one sent.
+// A socket for datagrams, where it is bound, and whether a datagram may wait there.
 #[derive(Drop)]
 struct RadiusSocket {
     udp: UdpSocket,
     address: [u8; 4],
     port: u16,
     may_receive: bool,
-    received: Option<(usize, SocketAddrV4)>,
-    sent: Option<(usize, SocketAddrV4)>,
+    // What the last receive gave: the size and the source of a datagram, none, or a fault.
+    received: Result<Option<(usize, SocketAddrV4)>, Fault>,
+    // How much of a reply was sent since then, or that it failed, and where to.
+    sent: Option<(Result<usize, Fault>, SocketAddrV4)>,
 }
 
 impl Datagrams {
@@ -190,7 +191,9 @@ impl Datagrams {
     /// If the system fails, or does not take the whole reply.
     pub fn reply(&mut self, bytes: &[u8], to: SocketAddrV4) -> Result<(), Fault>
         ensures sent { OnOk result
-            (HasSent self.new.sockets.items self.new.last (length bytes.now, to)) }
+            (HasSent self.new.sockets.items self.new.last (length bytes.now) to) }
+        ensures failed { OnErr result (IsSome (slice_get self.old.sockets.items self.old.last)
+            → HasNotSent self.new.sockets.items self.new.last (length bytes.now) to) }
         ensures other { self.new ≡ record self.old { sockets = self.new.sockets } }
     {
         let socket = self.sockets.get_mut(self.last).ok_or(Fault)?;
@@ -216,7 +219,7 @@ impl RadiusSocket {
             address,
             port,
             may_receive: true,
-            received: None,
+            received: Ok(None),
             sent: None,
         })
     }
@@ -224,32 +227,30 @@ impl RadiusSocket {
     // The datagram that waits here, if one does. Its size and its source are kept beside the socket,
     // and what is made of them above is a clause.
     fn receive(&mut self, buffer: &mut [u8]) -> Result<Option<(usize, SocketAddrV4)>, Fault>
-        ensures same { self.new ≡ record self.old {
+        ensures kept { self.new ≡ record self.old {
           may_receive = self.new.may_receive;
-          received = self.new.received;
+          received = result;
+          sent = None;
         } }
         ensures marked { IfOk result (λ received. self.new.may_receive ≡ is_some received) }
-        ensures kept { IfOk result (λ received. self.new.received ≡ received) }
     {
-        self.received = None;
-        if !self.may_receive {
-            return Ok(None);
+        self.received = Ok(None);
+        self.sent = None;
+        if self.may_receive {
+            self.received = outcome_of(self.udp.recv_from(buffer));
         }
-        self.received = outcome_of(self.udp.recv_from(buffer))?;
-        self.may_receive = self.received.is_some();
-        Ok(self.received)
+        self.may_receive = !matches!(self.received, Ok(None));
+        self.received
     }
 
     // Sends a datagram. How much was sent, and where to, is kept beside the socket: no contract of
     // the system says so, and what is made of it above is a clause.
-    fn send(&mut self, bytes: &[u8], to: SocketAddrV4) -> io::Result<usize>
-        ensures same { self.new ≡ record self.old { sent = self.new.sent } }
-        ensures kept { IfOk result (λ size. self.new.sent ≡ Some (size, to)) }
+    fn send(&mut self, bytes: &[u8], to: SocketAddrV4) -> Result<usize, Fault>
+        ensures { self.new ≡ record self.old { sent = Some (result, to) } }
     {
-        self.sent = None;
-        let size = send_waiting(&self.udp, bytes, to)?;
-        self.sent = Some((size, to));
-        Ok(size)
+        let sent = send_waiting(&self.udp, bytes, to).map_err(|_| Fault);
+        self.sent = Some((sent, to));
+        sent
     }
 }
 

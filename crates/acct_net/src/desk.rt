@@ -9,7 +9,7 @@ ghost use Rattle.std.specs.Prelude.{◌≡◌, ◌≢◌, ◌⊎◌, ◌+◌, No
 ghost use Rattle.std.specs.Prelude.{OnOk};
 ghost use Rattle.std.specs.Prelude.{◌↔◌, slice_get, slice_set, IsOk, MatchOption};
 ghost use Rattle.std.specs.IoError.{error_kind};
-ghost use Rattle.acct_net.specs.inner.Places.{IsWaiting, Answers, IsReadyAt, HasReady, IsWoken};
+ghost use Rattle.acct_net.specs.inner.Places.{IsWaiting, Answers, IsClosed, IsReadyAt, HasReady, IsWoken};
 ghost use Rattle.acct_net.specs.inner.Places.{ChangesOnly, HasReceived, IsPaidAt, has_ready};
 ghost use Rattle.acct_net.specs.inner.Places.{HasNoneToDrop, IsDroppable, IsFirstToDrop, IsLate};
 ghost use Rattle.acct_net.specs.inner.Places.{IsEarlier, IsServed, accepted_at};
@@ -34,6 +34,17 @@ pub const PLACES: usize = 64;
 const ACCEPTS_OF_A_TURN: u32 = 8;
 /// The most reads and writes of callers in a turn.
 const STEPS_OF_A_TURN: u32 = 8;
+
+// Whose response is awaited.
+#[derive(Clone, Copy)]
+enum Unanswered {
+    // Nobody's.
+    Nobody,
+    // That of the caller who has this place.
+    At(usize),
+    // Nobody's: the last one could not be sent.
+    Failed,
+}
 
 // What one step of the callers came to.
 #[derive(Drop)]
@@ -71,7 +82,7 @@ pub struct Desk<R: Net> {
     is_full: bool,
     places: Vec<Option<Caller<R::Stream>>>,
     next: usize,
-    unanswered: Option<usize>,
+    unanswered: Unanswered,
     // How often callers were served.
     serves: u64,
 }
@@ -99,7 +110,7 @@ impl<R: Net> Desk<R> {
     /// Those of the system, and `OutOfMemory` if there is no memory for the places.
     pub fn bind(runtime: &R, alloc: Global, address: [u8; 4], port: u16) -> io::Result<Desk<R>>
         ensures accepts { IfOk result (λ desk. desk.may_accept ≡ true) }
-        ensures idle { IfOk result (λ desk. desk.unanswered ≡ None) }
+        ensures idle { IfOk result (λ desk. desk.unanswered ≡ Unanswered.Nobody) }
         ensures address { IfOk result (λ desk. desk.door.address ≡ address) }
         ensures port { IfOk result (λ desk. desk.door.port ≡ port) }
         ensures places { IfOk result (λ desk. desk.places.items ≡ replicate PLACES None) }
@@ -118,7 +129,7 @@ impl<R: Net> Desk<R> {
             is_full: false,
             places,
             next: 0,
-            unanswered: None,
+            unanswered: Unanswered::Nobody,
             serves: 0,
         })
     }
@@ -196,38 +207,44 @@ impl<R: Net> Desk<R> {
     pub fn answer(&mut self, response: &[u8], now: Instant) -> Result<(), Fault>
         ensures answered { OnOk result (Answers R.Stream.contents self.old.unanswered
             self.old.places.items self.new.places.items response.now) }
-        ensures failed { OnErr result (MatchOption self.old.unanswered
-            (self.new.places.items ≡ self.old.places.items)
-            (λ place. self.new.places.items ≡ slice_set self.old.places.items place None)) }
+        ensures failed { OnErr result
+            (IsClosed self.old.unanswered self.old.places.items self.new.places.items) }
+        ensures nobody { OnOk result (self.new.unanswered ≡ Unanswered.Nobody) }
+        ensures told { OnErr result (self.new.unanswered ≡ Unanswered.Failed) }
         ensures other { self.new ≡ record self.old {
-          unanswered = None;
+          unanswered = self.new.unanswered;
           is_full = self.new.is_full;
           places = self.new.places;
         } }
     {
-        let place = self.unanswered.take().ok_or(Fault)?;
+        let unanswered = self.unanswered;
+        self.unanswered = Unanswered::Failed;
+        let Unanswered::At(place) = unanswered else {
+            return Err(Fault);
+        };
         self.is_full = false;
         let slot = self.places.get_mut(place).ok_or(Fault)?;
         let mut caller = slot.take().ok_or(Fault)?;
         caller.answer(self.alloc, response, now)?;
         *slot = Some(caller);
+        self.unanswered = Unanswered::Nobody;
         Ok(())
     }
 
     /// Closes the connection of a caller whose request was given and not answered, if there is one.
     pub fn close_unanswered(&mut self)
-        ensures places { MatchOption self.old.unanswered
-            (self.new.places.items ≡ self.old.places.items)
-            (λ place. self.new.places.items ≡ slice_set self.old.places.items place None) }
+        ensures places { IsClosed self.old.unanswered
+            self.old.places.items self.new.places.items }
         ensures other { self.new ≡ record self.old {
-          unanswered = None;
+          unanswered = Unanswered.Nobody;
           is_full = self.new.is_full;
           places = self.new.places;
         } }
     {
-        if let Some(place) = self.unanswered.take() {
+        if let Unanswered::At(place) = self.unanswered {
             self.clear(place);
         }
+        self.unanswered = Unanswered::Nobody;
     }
 
     // Accepts callers that wait, while there are places for them.
@@ -401,7 +418,7 @@ impl<R: Net> Desk<R> {
         *slot = Some(caller);
         match step {
             Step::Received(request) => {
-                self.unanswered = Some(place);
+                self.unanswered = Unanswered::At(place);
                 Ok(Some(request))
             }
             Step::Pending | Step::Closed => Ok(None),

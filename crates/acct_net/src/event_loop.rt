@@ -14,8 +14,8 @@ ghost use Rattle.std.specs.Prelude.{◌≡◌, ◌+◌, ◌-◌, ◌<◌, ◌^�
 ghost use Rattle.std.specs.Prelude.{◌≤◌, ◌⊎◌, IsErr, IsTrue, OnErr, length, not, slice_get, true};
 ghost use Rattle.std.specs.List.{All, list_any};
 ghost use Rattle.mio.specs.Events.{items};
-ghost use Rattle.acct_net.specs.inner.Places.{HasReady, IsAnswered, IsOfUnanswered, IsWoken};
-ghost use Rattle.acct_net.specs.inner.RadiusSockets.{IsReceived, IsSent, IsWokenAt};
+ghost use Rattle.acct_net.specs.inner.Places.{HasFailed, HasReady, IsAnswered, IsOfUnanswered, IsWoken};
+ghost use Rattle.acct_net.specs.inner.RadiusSockets.{IsReceived, IsSent, IsUnsent, IsWokenAt};
 ghost use Rattle.acct_net.specs.inner.Turns.{is_request};
 
 use crate::datagrams::Datagrams;
@@ -26,7 +26,7 @@ use acct_service::{Event, Fault, What, moment_of};
 use std::alloc::Global;
 use std::io;
 use std::net::{Ipv4Addr, Net, OpenListener, SocketAddrV4};
-use std::time::{Clock, Instant};
+use std::time::Clock;
 
 /// The most octets of a datagram.
 const LONGEST_DATAGRAM: usize = 65_535;
@@ -143,9 +143,9 @@ impl<'r, R: Net + Clock> EventLoop<'r, R> {
         ensures quiet { IfOk result (λ event. event ≡ None
             → (self.new.datagrams.receives ≡ self.old.datagrams.receives + 1)
             × (self.new.desk.serves ≡ self.old.desk.serves + 1)) }
-        ensures waits { self.new.readiness.waits ≡ self.old.readiness.waits + 1 }
         ensures idle { IfOk result (λ event. event ≡ None → list_any (λ socket. socket.may_receive)
             self.new.datagrams.sockets.items ≡ false) }
+        ensures waits { self.new.readiness.waits ≡ self.old.readiness.waits + 1 }
         ensures asked { IfOk result (λ event. IfSome event (λ it.
             IsOfUnanswered self.new.desk.unanswered self.new.desk.places.items it.what)) }
         ensures received { IfOk result (λ event. IfSome event (λ it. IsReceived
@@ -307,6 +307,10 @@ impl<'r, R: Net + Clock> EventLoop<'r, R> {
             bytes.now) }
         ensures sent { OnOk result (IsSent self.new.datagrams.sockets.items
             self.new.datagrams.last bytes.now what.now) }
+        ensures failed { OnErr result
+            (HasFailed self.new.readiness.time self.new.desk.unanswered what.now) }
+        ensures unsent { OnErr result (IsUnsent self.old.datagrams.sockets.items
+            self.new.datagrams.sockets.items self.new.datagrams.last bytes.now what.now) }
     {
         match what {
             What::Datagram { source, port, .. } => {
@@ -314,7 +318,8 @@ impl<'r, R: Net + Clock> EventLoop<'r, R> {
                 self.datagrams.reply(bytes, to)
             }
             What::Desk { .. } => {
-                let now = Instant::now(self.runtime).map_err(|_| Fault)?;
+                self.readiness.read_clock(self.runtime);
+                let now = self.readiness.time().ok_or(Fault)?;
                 self.desk.answer(bytes, now)
             }
         }

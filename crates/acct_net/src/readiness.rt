@@ -20,7 +20,7 @@ pub struct Readiness {
     waits: u64,
     most: u64,
     has_failed: bool,
-    // What the clock said as it ended, if it could be read.
+    // What the clock said when it was last read, if it could be read.
     time: Option<Instant>,
 }
 
@@ -74,8 +74,8 @@ impl Readiness {
     }
 
     /// Waits until a socket is ready, but no longer than so many milliseconds, and then reads the
-    /// clock. It counts its waits. No contract of the system says how long it waits, or what the
-    /// clock said: that it is given `most`, and that the time is the clock's, is read by eye.
+    /// clock. It counts its waits. No contract of the system says how long it waits: that it is
+    /// given `most` is read by eye.
     ///
     /// # Errors
     ///
@@ -92,11 +92,18 @@ impl Readiness {
             .poll
             .poll(&mut self.events, Some(Duration::from_millis(most)));
         self.has_failed = waited.is_err();
-        self.time = Instant::now(runtime).ok();
+        self.read_clock(runtime);
         waited
     }
 
-    /// The time at which the last wait ended, if the clock could be read.
+    /// Reads the clock. No contract of the system says what it said: this is read by eye.
+    pub fn read_clock<R: Clock>(&mut self, runtime: &R)
+        ensures { self.new ≡ record self.old { time = self.new.time } }
+    {
+        self.time = Instant::now(runtime).ok();
+    }
+
+    /// What the clock said when it was last read, if it could be read.
     pub fn time(&self) -> Option<Instant>
         ensures { result ≡ self.now.time }
     {

@@ -3,11 +3,11 @@
 //! 1. A turn is one of the event loop, and every fault is counted.
 //! 2. While a flag is set, what arrives is received and not handed on. Nobody is answered.
 ghost use Rattle.std.specs.Prelude.{◌≡◌, ◌+◌, ◌-◌, ◌<◌, ◌≤◌, ◌^◌, false, None, Some, IfOk, IfSome};
-ghost use Rattle.std.specs.Prelude.{OnOk};
+ghost use Rattle.std.specs.Prelude.{OnErr, OnOk};
 ghost use Rattle.acct_service.specs.Told.{CountsFault, Grows, given, sent};
 ghost use Rattle.acct_net.specs.Bound.{AreBoundAt};
-ghost use Rattle.acct_net.specs.inner.Places.{IsAnswered, IsOfUnanswered};
-ghost use Rattle.acct_net.specs.inner.RadiusSockets.{IsReceived, IsSent};
+ghost use Rattle.acct_net.specs.inner.Places.{HasFailed, IsAnswered, IsOfUnanswered};
+ghost use Rattle.acct_net.specs.inner.RadiusSockets.{IsReceived, IsSent, IsUnsent};
 
 use crate::datagrams::Datagrams;
 use crate::desk::Desk;
@@ -174,6 +174,11 @@ impl<'r, R: Net + Clock> Exchange for Sockets<'r, R> {
             self.new.event_loop.desk.places.items bytes.now) }
         ensures datagram { OnOk result (IsSent self.new.event_loop.datagrams.sockets.items
             self.new.event_loop.datagrams.last bytes.now event.now.what) }
+        ensures failed { OnErr result (HasFailed self.new.event_loop.readiness.time
+            self.new.event_loop.desk.unanswered event.now.what) }
+        ensures unsent { OnErr result (IsUnsent self.old.event_loop.datagrams.sockets.items
+            self.new.event_loop.datagrams.sockets.items self.new.event_loop.datagrams.last
+            bytes.now event.now.what) }
     {
         let sent = self.event_loop.send(&event.what, bytes);
         if sent.is_err() {

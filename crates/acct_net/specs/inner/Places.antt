@@ -8,6 +8,8 @@ use Rattle.acct_service.specs.declared.event.What.{What}
 use Rattle.acct_service.specs.declared.event.What.TheVariants as what
 use Rattle.acct_net.specs.declared.desk.Served.{Served}
 use Rattle.acct_net.specs.declared.desk.Served.TheVariants as served
+use Rattle.acct_net.specs.declared.desk.Unanswered.{Unanswered}
+use Rattle.acct_net.specs.declared.desk.Unanswered.TheVariants as awaits
 use Rattle.acct_net_callers.specs.declared.caller.Caller.{Caller}
 use Rattle.acct_net_callers.specs.declared.caller.Stage.TheVariants as stage
 use Rattle.acct_net_callers.specs.declared.caller.Step.TheVariants as step
@@ -20,6 +22,12 @@ abbrev pub IsEarlier : (ℕ × Instant) → (ℕ × Instant) → (ℕ × Instant
 IsEarlier one other is =
     ((is ≡ one) × (instant_nanos one.1 ≤ instant_nanos other.1))
     ⊎ ((is ≡ other) × (instant_nanos other.1 ≤ instant_nanos one.1))
+
+-- If an event was a request at the desk, its response could not be sent, or the clock could not be
+-- read.
+abbrev pub HasFailed : Option Instant → Unanswered → What → Type 0
+HasFailed time unanswered (what.Datagram source port octets) = ⊤
+HasFailed time unanswered (what.Desk request) = (time ≡ None) ⊎ (unanswered ≡ awaits.Failed)
 
 module _ {S : Type 0} where
   -- the caller who has this place
@@ -37,28 +45,29 @@ module _ {S : Type 0} where
 
   -- a caller is unanswered: the one who has this place. It sent this request, and awaits its
   -- response.
-  abbrev pub IsWaiting : Option ℕ → List (Option (Caller S)) → List ℕ → Type 0
-  IsWaiting (Some place) places request =
+  abbrev pub IsWaiting : Unanswered → List (Option (Caller S)) → List ℕ → Type 0
+  IsWaiting (awaits.At place) places request =
       (caller : Caller S) × IsAt places place caller × (caller.stage ≡ stage.Waiting request)
-  IsWaiting None places request = ⊥
+  IsWaiting awaits.Nobody places request = ⊥
+  IsWaiting awaits.Failed places request = ⊥
 
   -- a request that a step of the callers came to is of the unanswered caller
-  abbrev pub IsServed : Option ℕ → List (Option (Caller S)) → Served → Type 0
+  abbrev pub IsServed : Unanswered → List (Option (Caller S)) → Served → Type 0
   IsServed unanswered places served.Nobody = ⊤
   IsServed unanswered places served.Pending = ⊤
   IsServed unanswered places (served.Request request) = IsWaiting unanswered places request
 
   -- if an event is a request at the desk, the unanswered caller sent it
-  abbrev pub IsOfUnanswered : Option ℕ → List (Option (Caller S)) → What → Type 0
+  abbrev pub IsOfUnanswered : Unanswered → List (Option (Caller S)) → What → Type 0
   IsOfUnanswered unanswered places (what.Datagram source port octets) = ⊤
   IsOfUnanswered unanswered places (what.Desk request) = IsWaiting unanswered places request
 
   -- The response was written to the unanswered caller, but for what is left of it. Every other
   -- place is as before.
-  pub record Answers (held : S → Option (List ℕ)) (unanswered : Option ℕ)
+  pub record Answers (held : S → Option (List ℕ)) (unanswered : Unanswered)
       (old new : List (Option (Caller S))) (response : List ℕ) : Type 0 where
     pub place : ℕ
-    pub has_place : unanswered ≡ Some place
+    pub has_place : unanswered ≡ awaits.At place
     pub before : Caller S
     pub was : IsAt old place before
     pub after : Caller S
@@ -75,10 +84,10 @@ module _ {S : Type 0} where
 
   -- This request was read of the unanswered caller, by one step from how he was before. Every other
   -- place is as before.
-  pub record HasReceived (left held : S → Option (List ℕ)) (unanswered : Option ℕ)
+  pub record HasReceived (left held : S → Option (List ℕ)) (unanswered : Unanswered)
       (old new : List (Option (Caller S))) (request : List ℕ) : Type 0 where
     pub place : ℕ
-    pub has_place : unanswered ≡ Some place
+    pub has_place : unanswered ≡ awaits.At place
     pub before : Caller S
     pub was : IsAt old place before
     pub after : Caller S
@@ -87,11 +96,18 @@ module _ {S : Type 0} where
         (held before.stream) (held after.stream) before.stage after.stage (step.Received request)
 
   -- what came of the desk is answered to the unanswered caller, and to nobody else
-  abbrev pub IsAnswered : (S → Option (List ℕ)) → What → Option ℕ → List (Option (Caller S))
+  abbrev pub IsAnswered : (S → Option (List ℕ)) → What → Unanswered → List (Option (Caller S))
       → List (Option (Caller S)) → List ℕ → Type 0
   IsAnswered held (what.Datagram source port octets) unanswered old new response = new ≡ old
   IsAnswered held (what.Desk request) unanswered old new response =
       Answers held unanswered old new response
+
+  -- the connection of the unanswered caller, if there is one, is closed. Every other place is as
+  -- before.
+  abbrev pub IsClosed : Unanswered → List (Option (Caller S)) → List (Option (Caller S)) → Type 0
+  IsClosed (awaits.At place) old new = new ≡ slice_set old place None
+  IsClosed awaits.Nobody old new = new ≡ old
+  IsClosed awaits.Failed old new = new ≡ old
 
   -- whether a caller has this place who is ready, as far as is known
   abbrev pub has_ready : Option (Caller S) → Bool

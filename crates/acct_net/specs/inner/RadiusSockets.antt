@@ -1,10 +1,11 @@
 -- The sockets for datagrams.
-use Rattle.std.specs.Prelude.{◌≡◌, ◌<◌, ⊤, ℕ, true, List, Some, length, slice_get, slice_index_or}
-use Rattle.std.specs.Prelude.{MatchOption, slice_set, take}
+use Rattle.std.specs.Prelude.{◌≡◌, ◌≢◌, ◌<◌, ⊤, ℕ, true, List, None, Some, Ok, Result, length}
+use Rattle.std.specs.Prelude.{IsSome, MatchOption, slice_get, slice_index_or, slice_set, take}
 use Rattle.std.specs.Net.Socket.{v4_ip, v4_port}
 use Rattle.std.specs.Net.Addr.{ipv4_octets}
 use Rattle.std.specs.declared.net.socket_addr.SocketAddrV4.{SocketAddrV4}
 use Rattle.acct_service.specs.declared.event.What.{What}
+use Rattle.acct_service.specs.declared.exchange.Fault.{Fault}
 use Rattle.acct_service.specs.declared.event.What.TheVariants as what
 use Rattle.acct_net.specs.declared.datagrams.RadiusSocket.{RadiusSocket}
 
@@ -13,11 +14,12 @@ abbrev pub MayReceiveAt : List RadiusSocket → ℕ → Type 0
 MayReceiveAt sockets place = (place < length sockets)
     × ((d : RadiusSocket) → (slice_index_or sockets place d).may_receive ≡ true)
 
--- the last receive of the socket with this place gave a datagram of this size and from there
+-- the last receive of the socket with this place gave a datagram of this size and from there, to
+-- which it has sent no reply
 abbrev pub HasReceived : List RadiusSocket → ℕ → (ℕ × SocketAddrV4) → Type 0
 HasReceived sockets place datagram =
     (socket : RadiusSocket) × (slice_get sockets place ≡ Some socket)
-    × (socket.received ≡ Some datagram)
+    × (socket.received ≡ Ok (Some datagram)) × (socket.sent ≡ None)
 
 -- If an event is a datagram, the socket with this place received it last: its source and its port
 -- are those that the system gave, and its octets are so many at the front of the buffer.
@@ -33,15 +35,30 @@ IsWokenAt place old new = MatchOption (slice_get old place) (new ≡ old)
     (λ socket. new ≡ slice_set old place (record socket { may_receive = true }))
 
 -- the last datagram that the socket with this place sent has this size and went there
-abbrev pub HasSent : List RadiusSocket → ℕ → (ℕ × SocketAddrV4) → Type 0
-HasSent sockets place datagram =
+abbrev pub HasSent : List RadiusSocket → ℕ → ℕ → SocketAddrV4 → Type 0
+HasSent sockets place size to =
     (socket : RadiusSocket) × (slice_get sockets place ≡ Some socket)
-    × (socket.sent ≡ Some datagram)
+    × (socket.sent ≡ Some (Ok size, to))
+
+-- The socket with this place was to send a datagram there. The system took another size of it than
+-- this, or failed.
+abbrev pub HasNotSent : List RadiusSocket → ℕ → ℕ → SocketAddrV4 → Type 0
+HasNotSent sockets place size to =
+    (socket : RadiusSocket) × (slice_get sockets place ≡ Some socket)
+    × ((outcome : Result ℕ Fault) × (socket.sent ≡ Some (outcome, to)) × (outcome ≢ Ok size))
 
 -- If these octets are a reply to a datagram, the socket with this place sent as many to whom it came
 -- from.
 abbrev pub IsSent : List RadiusSocket → ℕ → List ℕ → What → Type 0
 IsSent sockets place bytes (what.Datagram source port octets) =
-    (to : SocketAddrV4) × HasSent sockets place (length bytes, to)
+    (to : SocketAddrV4) × HasSent sockets place (length bytes) to
     × (source ≡ ipv4_octets (v4_ip to)) × (port ≡ v4_port to)
 IsSent sockets place bytes (what.Desk request) = ⊤
+
+-- If these octets were to be a reply to a datagram, the socket with this place tried to send them to
+-- whom it came from, and the system did not take them all.
+abbrev pub IsUnsent : List RadiusSocket → List RadiusSocket → ℕ → List ℕ → What → Type 0
+IsUnsent old new place bytes (what.Datagram source port octets) = IsSome (slice_get old place)
+    → (to : SocketAddrV4) × HasNotSent new place (length bytes) to
+    × (source ≡ ipv4_octets (v4_ip to)) × (port ≡ v4_port to)
+IsUnsent old new place bytes (what.Desk request) = ⊤

@@ -1,4 +1,6 @@
+use Rattle.std.proofs.Common.{◌∙◌, Ok, ap}
 use Rattle.acct_net.specs.declared.datagrams.RadiusSocket.{RadiusSocket}
+use Rattle.acct_net.proofs.PlaceLemmas.{put}
 use Rattle.acct_net.proofs.SearchLemmas.{fewer}
 use Rattle.acct_net.proofs.datagrams.Datagrams.receive.Goals as goal
 
@@ -7,3 +9,12 @@ loop-place-smaller c =
     fewer (λ (socket : RadiusSocket). socket.may_receive) c.loop-place.self.sockets.items
     c.in-Some.place c.receive.new.self c.receive.new.self c.in-Some.ensures.some.0
     (c.in-Some.ensures.some.1 c.receive.new.self) (rw c.in-None.is at c.in_ok-received.ensures.marked)
+
+pub returns-in-Some-2-clause-some : goal.returns-in-Some-2-clause-some
+returns-in-Some-2-clause-some c = (
+  c.receive.new.self,
+  put c.loop-place.self.sockets.items c.in-Some.place c.receive.new.self c.in-Some.ensures.some.0,
+  ap (λ (socket : RadiusSocket). socket.received) c.in_ok-received.ensures.kept
+      ∙ ap Ok c.in-Some-2.is,
+  ap (λ (socket : RadiusSocket). socket.sent) c.in_ok-received.ensures.kept,
+)

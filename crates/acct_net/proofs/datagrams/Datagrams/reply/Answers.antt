@@ -1,4 +1,5 @@
-use Rattle.std.proofs.Common.{rules}
+use Rattle.std.proofs.Common.{◌∙◌, Err, Ok, Some, ap, rules}
+use Rattle.acct_net.specs.declared.datagrams.RadiusSocket.{RadiusSocket}
 use Rattle.acct_net.proofs.PlaceLemmas.{put}
 use Rattle.acct_net.proofs.datagrams.Datagrams.reply.Goals as goal
 
@@ -6,5 +7,28 @@ pub returns-in-Ok-clause-sent : goal.returns-in-Ok-clause-sent
 returns-in-Ok-clause-sent c = (
   c.send.new.self,
   put c.args.self.now.sockets.items c.args.self.now.last c.send.new.self (search rules),
-  rw (← c.if-count-bytes.true) (c.in-Ok.ensures.kept),
+  ap (λ (socket : RadiusSocket). socket.sent) c.in-Ok.ensures
+      ∙ ap (λ size. Some (Ok size, c.args.to)) c.if-count-bytes.true,
+)
+
+pub returns-in_default-clause-failed : goal.returns-in_default-clause-failed
+returns-in_default-clause-failed c = λ _. (
+  c.send.new.self,
+  put c.args.self.now.sockets.items c.args.self.now.last c.send.new.self (search rules),
+  (
+    Ok c.in-Ok.count,
+    ap (λ (socket : RadiusSocket). socket.sent) c.in-Ok.ensures,
+    λ same. c.if-count-bytes.false (cc same),
+  ),
+)
+
+pub returns-in_default-2-clause-failed : goal.returns-in_default-2-clause-failed
+returns-in_default-2-clause-failed c = λ _. (
+  c.send.new.self,
+  put c.args.self.now.sockets.items c.args.self.now.last c.send.new.self (search rules),
+  (
+    Err c.in_default.field-0,
+    ap (λ (socket : RadiusSocket). socket.sent) c.in_default.ensures,
+    λ same. cc same,
+  ),
 )
