@@ -35,14 +35,14 @@ const ACCEPTS_OF_A_TURN: u32 = 8;
 /// The most reads and writes of callers in a turn.
 const STEPS_OF_A_TURN: u32 = 8;
 
-// Whose response is awaited.
+/// Whose response is awaited.
 #[derive(Clone, Copy)]
-enum Unanswered {
-    // Nobody's.
+pub enum Unanswered {
+    /// Nobody's.
     Nobody,
-    // That of the caller who has this place.
+    /// That of the caller who has this place.
     At(usize),
-    // Nobody's: the last one could not be sent.
+    /// Nobody's: the last one could not be sent.
     Failed,
 }
 
@@ -189,6 +189,9 @@ impl<R: Net> Desk<R> {
         ensures serves { self.new.serves ≡ self.old.serves + 1 }
         ensures some { IfOk result (λ request. IfSome request
             (IsWaiting self.new.unanswered self.new.places.items)) }
+        ensures none { IfOk result (λ request. request ≡ None
+            → self.new.unanswered ≡ self.old.unanswered) }
+        ensures failed { OnErr result (self.new.unanswered ≡ self.old.unanswered) }
     {
         self.serves += 1;
         if let Some(place) = self.late_place(now) {
@@ -342,6 +345,9 @@ impl<R: Net> Desk<R> {
     fn serve_ready(&mut self, buffer: &mut [u8], now: Instant) -> Result<Option<Octets>, Fault>
         ensures some { IfOk result (λ request. IfSome request
             (IsWaiting self.new.unanswered self.new.places.items)) }
+        ensures none { IfOk result (λ request. request ≡ None
+            → self.new.unanswered ≡ self.old.unanswered) }
+        ensures failed { OnErr result (self.new.unanswered ≡ self.old.unanswered) }
         ensures other { self.new ≡ record self.old {
           is_full = self.new.is_full;
           places = self.new.places;
@@ -369,7 +375,9 @@ impl<R: Net> Desk<R> {
             → result ≡ Ok Served.Nobody }
         ensures somebody { IsSome (in_turn has_ready self.old.places.items self.old.next)
             → result ≢ Ok Served.Nobody }
-        ensures waiting { IfOk result (IsServed self.new.unanswered self.new.places.items) }
+        ensures waiting { IfOk result
+            (IsServed self.old.unanswered self.new.unanswered self.new.places.items) }
+        ensures failed { OnErr result (self.new.unanswered ≡ self.old.unanswered) }
         ensures other { self.new ≡ record self.old {
           is_full = self.new.is_full;
           places = self.new.places;
@@ -402,6 +410,7 @@ impl<R: Net> Desk<R> {
         ensures others { ChangesOnly place self.old.places.items self.new.places.items }
         ensures none { IfOk result (λ request. request ≡ None
             → self.new.unanswered ≡ self.old.unanswered) }
+        ensures failed { OnErr result (self.new.unanswered ≡ self.old.unanswered) }
         ensures other { self.new ≡ record self.old {
           is_full = self.new.is_full;
           places = self.new.places;

@@ -19,7 +19,7 @@ ghost use Rattle.acct_net.specs.inner.RadiusSockets.{IsReceived, IsSent, IsUnsen
 ghost use Rattle.acct_net.specs.inner.Turns.{is_request};
 
 use crate::datagrams::Datagrams;
-use crate::desk::{Desk, PLACES};
+use crate::desk::{Desk, PLACES, Unanswered};
 use crate::readiness::Readiness;
 use acct_model::Octets;
 use acct_service::{Event, Fault, What, moment_of};
@@ -145,6 +145,9 @@ impl<'r, R: Net + Clock> EventLoop<'r, R> {
             × (self.new.desk.serves ≡ self.old.desk.serves + 1)) }
         ensures idle { IfOk result (λ event. event ≡ None → list_any (λ socket. socket.may_receive)
             self.new.datagrams.sockets.items ≡ false) }
+        ensures nobody { IfOk result (λ event. event ≡ None
+            → self.new.desk.unanswered ≡ Unanswered.Nobody) }
+        ensures closed { OnErr result (self.new.desk.unanswered ≡ Unanswered.Nobody) }
         ensures waits { self.new.readiness.waits ≡ self.old.readiness.waits + 1 }
         ensures asked { IfOk result (λ event. IfSome event (λ it.
             IsOfUnanswered self.new.desk.unanswered self.new.desk.places.items it.what)) }
@@ -240,6 +243,9 @@ impl<'r, R: Net + Clock> EventLoop<'r, R> {
             self.new.datagrams.sockets.items self.new.datagrams.last self.new.buffer.items
             it.what)) }
         ensures kind { IfOk result (λ event. IfSome event (λ it. is_request it.what ≡ true)) }
+        ensures none { IfOk result (λ event. event ≡ None
+            → self.new.desk.unanswered ≡ self.old.desk.unanswered) }
+        ensures failed { OnErr result (self.new.desk.unanswered ≡ self.old.desk.unanswered) }
     {
         let now = self.readiness.time().ok_or(Fault)?;
         let request = self
@@ -253,7 +259,8 @@ impl<'r, R: Net + Clock> EventLoop<'r, R> {
 
     // The datagram that waits, if one does.
     fn next_datagram(&mut self) -> Result<Option<Event>, Fault>
-        requires { self.old.datagrams.receives < 2 ^ 64 - 1 }
+        requires receives { self.old.datagrams.receives < 2 ^ 64 - 1 }
+        requires nobody { self.old.desk.unanswered ≡ Unanswered.Nobody }
         ensures receives { self.new.datagrams.receives ≡ self.old.datagrams.receives + 1 }
         ensures readiness { self.new.readiness ≡ self.old.readiness }
         ensures desk { self.new.desk ≡ self.old.desk }

@@ -4,13 +4,14 @@
 //! 2. While a flag is set, what arrives is received and not handed on. Nobody is answered.
 ghost use Rattle.std.specs.Prelude.{◌≡◌, ◌+◌, ◌-◌, ◌<◌, ◌≤◌, ◌^◌, false, None, Some, IfOk, IfSome};
 ghost use Rattle.std.specs.Prelude.{OnErr, OnOk};
+ghost use Rattle.std.specs.List.{list_any};
 ghost use Rattle.acct_service.specs.Told.{CountsFault, Grows, given, sent};
 ghost use Rattle.acct_net.specs.Bound.{AreBoundAt};
 ghost use Rattle.acct_net.specs.inner.Places.{HasFailed, IsAnswered, IsOfUnanswered};
 ghost use Rattle.acct_net.specs.inner.RadiusSockets.{IsReceived, IsSent, IsUnsent};
 
 use crate::datagrams::Datagrams;
-use crate::desk::Desk;
+use crate::desk::{Desk, Unanswered};
 use crate::event_loop::EventLoop;
 use acct_service::{Event, Exchange, Fault};
 use acct_wire::Reason;
@@ -28,6 +29,8 @@ pub struct Sockets<'r, R: Net> {
     failures: u64,
     // While this is set, nothing is handed on.
     silenced: Option<&'r Cell<bool>>,
+    // Whether it was set in the last turn.
+    was_silent: bool,
     ghost waited: { event_loop.readiness.waits ≡ turns },
     ghost received: { event_loop.datagrams.receives ≤ turns },
     ghost served: { event_loop.desk.serves ≤ turns },
@@ -40,6 +43,7 @@ impl<'r, R: Net> Drop for Sockets<'r, R> {
             turns: _,
             failures: _,
             silenced: _,
+            was_silent: _,
         } = self;
     }
 }
@@ -77,6 +81,7 @@ impl<'r, R: Net + Clock> Sockets<'r, R> {
             turns: 0,
             failures: 0,
             silenced: None,
+            was_silent: false,
         })
     }
 
@@ -93,16 +98,19 @@ impl<'r, R: Net + Clock> Sockets<'r, R> {
             turns,
             failures,
             silenced: _,
+            was_silent: _,
         } = self;
         Sockets {
             event_loop,
             turns,
             failures,
             silenced: Some(flag),
+            was_silent: false,
         }
     }
 
-    // Whether nothing is handed on.
+    // Whether nothing is handed on. No contract says what the flag holds: this is read by eye, and
+    // what a turn makes of it is a clause.
     fn is_silenced(&self) -> bool
         ensures { self.now.silenced ≡ None → result ≡ false }
     {
@@ -150,14 +158,22 @@ impl<'r, R: Net + Clock> Exchange for Sockets<'r, R> {
         ensures received { IfOk result (λ event. IfSome event (λ it. IsReceived
             self.new.event_loop.datagrams.sockets.items self.new.event_loop.datagrams.last
             self.new.event_loop.buffer.items it.what)) }
+        ensures never { self.old.silenced ≡ None → self.new.was_silent ≡ false }
+        // Unless the flag is set, what was received is handed on.
+        ensures heard { self.new.was_silent ≡ false → IfOk result (λ event. event ≡ None
+            → list_any (λ socket. socket.may_receive) self.new.event_loop.datagrams.sockets.items
+            ≡ false) }
+        ensures nobody { self.new.was_silent ≡ false → IfOk result (λ event. event ≡ None
+            → self.new.event_loop.desk.unanswered ≡ Unanswered.Nobody) }
     {
+        self.was_silent = self.is_silenced();
         self.turns += 1;
         let event = self.event_loop.next_event();
         if event.is_err() {
             self.failures += 1;
         }
         match event {
-            Ok(Some(_)) if self.is_silenced() => Ok(None),
+            Ok(Some(_)) if self.was_silent => Ok(None),
             event => event,
         }
     }

@@ -51,15 +51,18 @@ module _ {S : Type 0} where
   IsWaiting awaits.Nobody places request = ⊥
   IsWaiting awaits.Failed places request = ⊥
 
-  -- a request that a step of the callers came to is of the unanswered caller
-  abbrev pub IsServed : Unanswered → List (Option (Caller S)) → Served → Type 0
-  IsServed unanswered places served.Nobody = ⊤
-  IsServed unanswered places served.Pending = ⊤
-  IsServed unanswered places (served.Request request) = IsWaiting unanswered places request
+  -- A request that a step of the callers came to is of the unanswered caller. If there was none, the
+  -- same one is unanswered as before.
+  abbrev pub IsServed : Unanswered → Unanswered → List (Option (Caller S)) → Served → Type 0
+  IsServed old new places served.Nobody = new ≡ old
+  IsServed old new places served.Pending = new ≡ old
+  IsServed old new places (served.Request request) = IsWaiting new places request
 
-  -- if an event is a request at the desk, the unanswered caller sent it
+  -- If an event is a request at the desk, the unanswered caller sent it. If it is a datagram, no
+  -- caller is unanswered.
   abbrev pub IsOfUnanswered : Unanswered → List (Option (Caller S)) → What → Type 0
-  IsOfUnanswered unanswered places (what.Datagram source port octets) = ⊤
+  IsOfUnanswered unanswered places (what.Datagram source port octets) =
+      unanswered ≡ awaits.Nobody
   IsOfUnanswered unanswered places (what.Desk request) = IsWaiting unanswered places request
 
   -- The response was written to the unanswered caller, but for what is left of it. Every other

@@ -46,5 +46,6 @@ returns-in-Received g c =
       };
       others = inr (Some c.proceed.new.self, refl);
       none = λ is. absurd (cc is);
+      failed = tt;
       other = refl;
     }

@@ -1,4 +1,4 @@
--- So far only places, whose turn is next, and who is unanswered have changed.
+-- So far only places, and whose turn is next, have changed.
 use Rattle.std.proofs.Common.{◌≡◌}
 use Rattle.acct_net.proofs.desk.Desk.serve_ready.Given as goal
 
@@ -7,5 +7,4 @@ invariant-loop g l = l.self ≡ record l.fn.self {
   is_full = l.self.is_full;
   places = l.self.places;
   next = l.self.next;
-  unanswered = l.self.unanswered;
 }
