@@ -1,3 +1,4 @@
 mod DropLemmas
 mod PlaceLemmas
 mod SearchLemmas
+mod TurnLemmas

@@ -153,6 +153,9 @@ impl Datagrams {
             → list_any (λ socket. socket.may_receive) self.new.sockets.items ≡ false) }
         ensures some { IfOk result (λ received. IfSome received (λ datagram.
             HasReceived self.new.sockets.items self.new.last datagram)) }
+        ensures turn { IfOk result (λ received. IfSome received (λ _.
+            in_turn (λ socket. socket.may_receive) self.new.sockets.items (self.old.last + 1)
+            ≡ Some self.new.last)) }
     {
         self.receives += 1;
         while let Some(place) = self.next_place() {
