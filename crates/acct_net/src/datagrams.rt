@@ -11,7 +11,7 @@ ghost use Rattle.std.specs.Prelude.{IsSome, OnErr, OnOk, is_some};
 ghost use Rattle.std.specs.Prelude.{◌↔◌, ◌+◌, IfOk, IfSome, IsErrAnd, IsOkAnd};
 ghost use Rattle.std.specs.List.{All, list_any, position};
 ghost use Rattle.acct_net.specs.Bound.{AreBoundAt};
-ghost use Rattle.acct_net.specs.inner.RadiusSockets.{MayReceiveAt, HasReceived, HasSent, HasNotSent};
+ghost use Rattle.acct_net.specs.inner.RadiusSockets.{MayReceiveAt, HasFault, HasReceived, HasSent, HasNotSent};
 ghost use Rattle.acct_net.specs.inner.RadiusSockets.{IsWokenAt};
 ghost use Rattle.acct_net.specs.inner.Turns.{in_turn};
 ghost use Rattle.std.specs.IoError.{error_kind};
@@ -156,6 +156,7 @@ impl Datagrams {
         ensures turn { IfOk result (λ received. IfSome received (λ _.
             in_turn (λ socket. socket.may_receive) self.new.sockets.items (self.old.last + 1)
             ≡ Some self.new.last)) }
+        ensures fault { OnErr result (HasFault self.new.sockets.items self.new.last) }
     {
         self.receives += 1;
         while let Some(place) = self.next_place() {

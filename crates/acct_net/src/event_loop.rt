@@ -15,7 +15,7 @@ ghost use Rattle.std.specs.Prelude.{◌≤◌, ◌⊎◌, IsErr, IsTrue, OnErr, 
 ghost use Rattle.std.specs.List.{All, list_any};
 ghost use Rattle.mio.specs.Events.{items};
 ghost use Rattle.acct_net.specs.inner.Places.{HasFailed, HasReady, IsAnswered, IsOfUnanswered, IsWoken};
-ghost use Rattle.acct_net.specs.inner.RadiusSockets.{IsReceived, IsSent, IsUnsent, IsWokenAt};
+ghost use Rattle.acct_net.specs.inner.RadiusSockets.{IsFault, IsLost, IsReceived, IsSent, IsUnsent, IsWokenAt};
 ghost use Rattle.acct_net.specs.inner.Turns.{is_request};
 
 use crate::datagrams::Datagrams;
@@ -140,6 +140,8 @@ impl<'r, R: Net + Clock> EventLoop<'r, R> {
             ⊎ ((self.new.readiness.time ≡ None)
             ⊎ ((self.new.desk.serves ≡ self.old.desk.serves + 1)
             ⊎ ((self.old.are_callers_first ≡ false) × (self.new.are_callers_first ≡ true)))) }
+        ensures fault { OnErr result (IsFault self.new.readiness.has_failed
+            self.new.are_callers_first self.new.datagrams.sockets.items self.new.datagrams.last) }
         ensures quiet { IfOk result (λ event. event ≡ None
             → (self.new.datagrams.receives ≡ self.old.datagrams.receives + 1)
             × (self.new.desk.serves ≡ self.old.desk.serves + 1)) }
@@ -272,6 +274,8 @@ impl<'r, R: Net + Clock> EventLoop<'r, R> {
         ensures idle { IfOk result (λ event. event ≡ None → list_any (λ socket. socket.may_receive)
             self.new.datagrams.sockets.items ≡ false) }
         ensures kind { IfOk result (λ event. IfSome event (λ it. is_request it.what ≡ false)) }
+        ensures fault { OnErr result
+            (IsLost self.new.datagrams.sockets.items self.new.datagrams.last) }
     {
         let Some((size, source)) = self.datagrams.receive(self.buffer.as_mut_slice())? else {
             return Ok(None);
@@ -279,17 +283,9 @@ impl<'r, R: Net + Clock> EventLoop<'r, R> {
         let what = What::Datagram {
             source: source.ip().octets(),
             port: source.port(),
-            bytes: self.copy(size)?,
+            bytes: copy(self.alloc, self.buffer.as_slice(), size)?,
         };
         Ok(Some(self.event(what)))
-    }
-
-    // The octets of the last datagram, which are at the front of the buffer.
-    fn copy(&self, size: usize) -> Result<Octets, Fault>
-        ensures { IfOk result (λ octets. octets ≡ take size self.now.buffer.items) }
-    {
-        let octets = self.buffer.get(..size).ok_or(Fault)?;
-        Octets::from_slice(self.alloc, octets).map_err(|_| Fault)
     }
 
     // This as an event at the clock's moment.
@@ -331,6 +327,14 @@ impl<'r, R: Net + Clock> EventLoop<'r, R> {
             }
         }
     }
+}
+
+// The octets of a datagram of this size, which are at the front of the buffer.
+fn copy(alloc: Global, buffer: &[u8], size: usize) -> Result<Octets, Fault>
+    ensures { IfOk result (λ octets. octets ≡ take size buffer.now) }
+{
+    let octets = buffer.get(..size).ok_or(Fault)?;
+    Octets::from_slice(alloc, octets).map_err(|_| Fault)
 }
 
 // Wakes what the last wait found ready.

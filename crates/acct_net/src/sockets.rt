@@ -8,7 +8,7 @@ ghost use Rattle.std.specs.List.{list_any};
 ghost use Rattle.acct_service.specs.Told.{CountsFault, Grows, given, sent};
 ghost use Rattle.acct_net.specs.Bound.{AreBoundAt};
 ghost use Rattle.acct_net.specs.inner.Places.{HasFailed, IsAnswered, IsOfUnanswered};
-ghost use Rattle.acct_net.specs.inner.RadiusSockets.{IsReceived, IsSent, IsUnsent};
+ghost use Rattle.acct_net.specs.inner.RadiusSockets.{IsFault, IsReceived, IsSent, IsUnsent};
 
 use crate::datagrams::Datagrams;
 use crate::desk::{Desk, Unanswered};
@@ -158,6 +158,9 @@ impl<'r, R: Net + Clock> Exchange for Sockets<'r, R> {
         ensures received { IfOk result (λ event. IfSome event (λ it. IsReceived
             self.new.event_loop.datagrams.sockets.items self.new.event_loop.datagrams.last
             self.new.event_loop.buffer.items it.what)) }
+        ensures fault { OnErr result (IsFault self.new.event_loop.readiness.has_failed
+            self.new.event_loop.are_callers_first self.new.event_loop.datagrams.sockets.items
+            self.new.event_loop.datagrams.last) }
         ensures never { self.old.silenced ≡ None → self.new.was_silent ≡ false }
         // Unless the flag is set, what was received is handed on.
         ensures heard { self.new.was_silent ≡ false → IfOk result (λ event. event ≡ None

@@ -1,6 +1,6 @@
 -- The sockets for datagrams.
-use Rattle.std.specs.Prelude.{◌≡◌, ◌≢◌, ◌<◌, ⊤, ℕ, true, List, None, Some, Ok, Result, length}
-use Rattle.std.specs.Prelude.{IsSome, MatchOption, slice_get, slice_index_or, slice_set, take}
+use Rattle.std.specs.Prelude.{◌≡◌, ◌≢◌, ◌<◌, ◌⊎◌, ⊤, ℕ, Bool, false, true, List, None, Some, Ok, Result, length}
+use Rattle.std.specs.Prelude.{IsErr, IsSome, MatchOption, slice_get, slice_index_or, slice_set, take}
 use Rattle.std.specs.Net.Socket.{v4_ip, v4_port}
 use Rattle.std.specs.Net.Addr.{ipv4_octets}
 use Rattle.std.specs.declared.net.socket_addr.SocketAddrV4.{SocketAddrV4}
@@ -20,6 +20,24 @@ abbrev pub HasReceived : List RadiusSocket → ℕ → (ℕ × SocketAddrV4) →
 HasReceived sockets place datagram =
     (socket : RadiusSocket) × (slice_get sockets place ≡ Some socket)
     × (socket.received ≡ Ok (Some datagram)) × (socket.sent ≡ None)
+
+-- the last receive of the socket with this place failed
+abbrev pub HasFault : List RadiusSocket → ℕ → Type 0
+HasFault sockets place =
+    (socket : RadiusSocket) × (slice_get sockets place ≡ Some socket) × IsErr socket.received
+
+-- The last receive of the socket with this place failed, or gave a datagram. So if there is no event,
+-- it failed, or there was no memory for the datagram.
+abbrev pub IsLost : List RadiusSocket → ℕ → Type 0
+IsLost sockets place =
+    (socket : RadiusSocket) × (slice_get sockets place ≡ Some socket)
+    × (socket.received ≢ Ok None)
+
+-- A turn failed: its wait did, or it was about callers, and datagrams are first in the next one, or
+-- what was received is lost.
+abbrev pub IsFault : Bool → Bool → List RadiusSocket → ℕ → Type 0
+IsFault has_failed are_callers_first sockets place =
+    (has_failed ≡ true) ⊎ ((are_callers_first ≡ false) ⊎ IsLost sockets place)
 
 -- If an event is a datagram, the socket with this place received it last: its source and its port
 -- are those that the system gave, and its octets are so many at the front of the buffer.
