@@ -11,8 +11,8 @@ ghost use Rattle.std.specs.Prelude.{IsSome, OnErr, OnOk, is_some};
 ghost use Rattle.std.specs.Prelude.{◌↔◌, ◌+◌, IfOk, IfSome, IsErrAnd, IsOkAnd};
 ghost use Rattle.std.specs.List.{All, list_any, position};
 ghost use Rattle.acct_net.specs.Bound.{AreBoundAt};
-ghost use Rattle.acct_net.specs.inner.RadiusSockets.{MayReceiveAt, HasFault, HasReceived, HasSent, HasNotSent};
-ghost use Rattle.acct_net.specs.inner.RadiusSockets.{IsWokenAt};
+ghost use Rattle.acct_net.specs.inner.RadiusSockets.{HasFault, HasNotSent, HasReceived, HasSent};
+ghost use Rattle.acct_net.specs.inner.RadiusSockets.{IsWokenAt, MayReceiveAt};
 ghost use Rattle.acct_net.specs.inner.Turns.{in_turn};
 ghost use Rattle.std.specs.IoError.{error_kind};
 
@@ -228,8 +228,8 @@ impl RadiusSocket {
         })
     }
 
-    // The datagram that waits here, if one does. Its size and its source are kept beside the socket,
-    // and what is made of them above is a clause.
+    // The datagram that waits here, if one does. The outcome is kept beside the socket, and what is
+    // made of it above is a clause.
     fn receive(&mut self, buffer: &mut [u8]) -> Result<Option<(usize, SocketAddrV4)>, Fault>
         ensures kept { self.new ≡ record self.old {
           may_receive = self.new.may_receive;
@@ -247,8 +247,8 @@ impl RadiusSocket {
         self.received
     }
 
-    // Sends a datagram. How much was sent, and where to, is kept beside the socket: no contract of
-    // the system says so, and what is made of it above is a clause.
+    // Sends a datagram. The outcome, and where to, is kept beside the socket: no contract of the
+    // system says so, and what is made of it above is a clause.
     fn send(&mut self, bytes: &[u8], to: SocketAddrV4) -> Result<usize, Fault>
         ensures { self.new ≡ record self.old { sent = Some (result, to) } }
     {

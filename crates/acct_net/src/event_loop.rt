@@ -15,14 +15,15 @@ ghost use Rattle.std.specs.Prelude.{◌≤◌, ◌⊎◌, IsErr, IsTrue, OnErr, 
 ghost use Rattle.std.specs.List.{All, list_any};
 ghost use Rattle.mio.specs.Events.{items};
 ghost use Rattle.acct_net.specs.inner.Places.{HasFailed, HasReady, IsAnswered, IsOfUnanswered, IsWoken};
-ghost use Rattle.acct_net.specs.inner.RadiusSockets.{IsFault, IsLost, IsReceived, IsSent, IsUnsent, IsWokenAt};
+ghost use Rattle.acct_net.specs.inner.RadiusSockets.{IsFault, IsLost, IsReceived, IsSent};
+ghost use Rattle.acct_net.specs.inner.RadiusSockets.{IsUnsent, IsWokenAt};
 ghost use Rattle.acct_net.specs.inner.Turns.{is_request};
 
 use crate::datagrams::Datagrams;
 use crate::desk::{Desk, PLACES, Unanswered};
 use crate::readiness::Readiness;
 use acct_model::Octets;
-use acct_service::{Event, Fault, What, moment_of};
+use acct_service::{Event, Fault, What};
 use std::alloc::Global;
 use std::io;
 use std::net::{Ipv4Addr, Net, OpenListener, SocketAddrV4};
@@ -156,6 +157,8 @@ impl<'r, R: Net + Clock> EventLoop<'r, R> {
         ensures received { IfOk result (λ event. IfSome event (λ it. IsReceived
             self.new.datagrams.sockets.items self.new.datagrams.last self.new.buffer.items
             it.what)) }
+        ensures moment { IfOk result (λ event. IfSome event (λ it.
+            it.moment ≡ self.new.readiness.moment)) }
         ensures turn { IfOk result (λ event. IfSome event (λ it.
             self.new.are_callers_first ≡ not (is_request it.what))) }
         ensures fair { self.old.are_callers_first ≡ false → IfOk result (λ event. IfSome event
@@ -245,6 +248,8 @@ impl<'r, R: Net + Clock> EventLoop<'r, R> {
             self.new.datagrams.sockets.items self.new.datagrams.last self.new.buffer.items
             it.what)) }
         ensures kind { IfOk result (λ event. IfSome event (λ it. is_request it.what ≡ true)) }
+        ensures moment { IfOk result (λ event. IfSome event (λ it.
+            it.moment ≡ self.new.readiness.moment)) }
         ensures none { IfOk result (λ event. event ≡ None
             → self.new.desk.unanswered ≡ self.old.desk.unanswered) }
         ensures failed { OnErr result (self.new.desk.unanswered ≡ self.old.desk.unanswered) }
@@ -274,6 +279,8 @@ impl<'r, R: Net + Clock> EventLoop<'r, R> {
         ensures idle { IfOk result (λ event. event ≡ None → list_any (λ socket. socket.may_receive)
             self.new.datagrams.sockets.items ≡ false) }
         ensures kind { IfOk result (λ event. IfSome event (λ it. is_request it.what ≡ false)) }
+        ensures moment { IfOk result (λ event. IfSome event (λ it.
+            it.moment ≡ self.new.readiness.moment)) }
         ensures fault { OnErr result
             (IsLost self.new.datagrams.sockets.items self.new.datagrams.last) }
     {
@@ -288,11 +295,12 @@ impl<'r, R: Net + Clock> EventLoop<'r, R> {
         Ok(Some(self.event(what)))
     }
 
-    // This as an event at the clock's moment.
+    // This as an event at the moment of this turn.
     fn event(&self, what: What) -> Event
-        ensures { result.what ≡ what }
+        ensures what { result.what ≡ what }
+        ensures moment { result.moment ≡ self.now.readiness.moment }
     {
-        let moment = moment_of(self.runtime);
+        let moment = self.readiness.moment();
         Event { moment, what }
     }
 
@@ -321,7 +329,7 @@ impl<'r, R: Net + Clock> EventLoop<'r, R> {
                 self.datagrams.reply(bytes, to)
             }
             What::Desk { .. } => {
-                self.readiness.read_clock(self.runtime);
+                self.readiness.read_clocks(self.runtime);
                 let now = self.readiness.time().ok_or(Fault)?;
                 self.desk.answer(bytes, now)
             }

@@ -1,7 +1,9 @@
-//! Which sockets are ready: a read or a write there need not wait.
+//! Which sockets are ready, so that a read or a write there need not wait, and what the clocks said
+//! after the wait for them.
 ghost use Rattle.std.specs.Prelude.{◌≡◌, ◌+◌, ◌-◌, ◌<◌, ◌^◌, IfOk, IsErr, IsTrue, ◌↔◌, length};
 ghost use Rattle.mio.specs.Events.{items};
 
+use acct_service::moment_of;
 use mio::unix::SourceFd;
 use mio::{Events, Interest, Poll, Token};
 use std::alloc::Global;
@@ -20,8 +22,11 @@ pub struct Readiness {
     waits: u64,
     most: u64,
     has_failed: bool,
-    // What the clock said when it was last read, if it could be read.
+    // What the clocks said when they were last read: the time, if it could be read, and the second
+    // since 1970.
     time: Option<Instant>,
+    moment: u64,
+    ghost fits: { moment < 2 ^ 53 },
 }
 
 impl Readiness {
@@ -40,6 +45,7 @@ impl Readiness {
             most: 0,
             has_failed: false,
             time: None,
+            moment: 0,
         })
     }
 
@@ -74,7 +80,7 @@ impl Readiness {
     }
 
     /// Waits until a socket is ready, but no longer than so many milliseconds, and then reads the
-    /// clock. It counts its waits. No contract of the system says how long it waits: that it is
+    /// clocks. It counts its waits. No contract of the system says how long it waits: that it is
     /// given `most` is read by eye.
     ///
     /// # Errors
@@ -92,18 +98,30 @@ impl Readiness {
             .poll
             .poll(&mut self.events, Some(Duration::from_millis(most)));
         self.has_failed = waited.is_err();
-        self.read_clock(runtime);
+        self.read_clocks(runtime);
         waited
     }
 
-    /// Reads the clock. No contract of the system says what it said: this is read by eye.
-    pub fn read_clock<R: Clock>(&mut self, runtime: &R)
-        ensures { self.new ≡ record self.old { time = self.new.time } }
+    /// Reads the clocks. No contract of the system says what they said: this is read by eye.
+    pub fn read_clocks<R: Clock>(&mut self, runtime: &R)
+        ensures waits { self.new.waits ≡ self.old.waits }
+        ensures most { self.new.most ≡ self.old.most }
+        ensures failed { self.new.has_failed ≡ self.old.has_failed }
+        ensures events { self.new.events ≡ self.old.events }
     {
         self.time = Instant::now(runtime).ok();
+        self.moment = moment_of(runtime);
     }
 
-    /// What the clock said when it was last read, if it could be read.
+    /// The seconds since 1970 when the clocks were last read.
+    pub fn moment(&self) -> u64
+        ensures moment { result ≡ self.now.moment }
+        ensures fits { result < 2 ^ 53 }
+    {
+        self.moment
+    }
+
+    /// The time when the clocks were last read, if it could be read.
     pub fn time(&self) -> Option<Instant>
         ensures { result ≡ self.now.time }
     {

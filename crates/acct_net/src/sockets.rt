@@ -158,6 +158,8 @@ impl<'r, R: Net + Clock> Exchange for Sockets<'r, R> {
         ensures received { IfOk result (λ event. IfSome event (λ it. IsReceived
             self.new.event_loop.datagrams.sockets.items self.new.event_loop.datagrams.last
             self.new.event_loop.buffer.items it.what)) }
+        ensures moment { IfOk result (λ event. IfSome event (λ it.
+            it.moment ≡ self.new.event_loop.readiness.moment)) }
         ensures fault { OnErr result (IsFault self.new.event_loop.readiness.has_failed
             self.new.event_loop.are_callers_first self.new.event_loop.datagrams.sockets.items
             self.new.event_loop.datagrams.last) }

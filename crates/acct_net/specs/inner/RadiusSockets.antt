@@ -1,6 +1,7 @@
 -- The sockets for datagrams.
-use Rattle.std.specs.Prelude.{◌≡◌, ◌≢◌, ◌<◌, ◌⊎◌, ⊤, ℕ, Bool, false, true, List, None, Some, Ok, Result, length}
-use Rattle.std.specs.Prelude.{IsErr, IsSome, MatchOption, slice_get, slice_index_or, slice_set, take}
+use Rattle.std.specs.Prelude.{◌≡◌, ◌≢◌, ◌<◌, ◌⊎◌, ⊤, ℕ, Bool, false, true, List, None, Some, Ok}
+use Rattle.std.specs.Prelude.{IsErr, IsSome, MatchOption, Result, length, slice_get, slice_index_or}
+use Rattle.std.specs.Prelude.{slice_set, take}
 use Rattle.std.specs.Net.Socket.{v4_ip, v4_port}
 use Rattle.std.specs.Net.Addr.{ipv4_octets}
 use Rattle.std.specs.declared.net.socket_addr.SocketAddrV4.{SocketAddrV4}

@@ -1,4 +1,4 @@
-use Rattle.std.proofs.Common.{◌≡◌, ◌+◌, ◌∙◌, Option, Some, Ok, Err, Result, ap, rules, sym}
+use Rattle.std.proofs.Common.{◌+◌, ◌∙◌, Ok, Err, Result, ap, rules, sym}
 use Rattle.std.specs.Prelude.{OnErr, is_some}
 use Rattle.acct_net.specs.declared.datagrams.RadiusSocket.{RadiusSocket}
 use Rattle.acct_net.proofs.PlaceLemmas.{put}
@@ -6,6 +6,7 @@ use Rattle.acct_net.proofs.SearchLemmas.{fewer}
 use Rattle.acct_net.proofs.TurnLemmas.{later, same_turn}
 use Rattle.acct_net.proofs.datagrams.Datagrams.receive.Goals as goal
 
+-- what holds anyway holds after an error
 on_err : {T E P : Type 0} (result : Result T E) → P → OnErr result P
 on_err (Ok value) fact = tt
 on_err (Err error) fact = fact

@@ -1,13 +1,18 @@
-use Rattle.std.proofs.Common.{Err, Ok, Result, inl, inr, refl, rules}
+use Rattle.std.proofs.Common.{Err, Ok, Result, inl, inr, refl}
 use Rattle.std.specs.Prelude.{OnErr}
 use Rattle.acct_net.proofs.event_loop.EventLoop.next_event.Goals as goal
-use Rattle.acct_net.proofs.event_loop.EventLoop.next_event.Goals.{then-self+in-Ok-None, then-self+in_default, else-self+in-Ok-None-next_datagram, else-self+in_default-next_datagram, in_default-next_datagram-via-in-Ok+in-Some-1, in_default-next_datagram-via-in-Err-1}
+use Rattle.acct_net.proofs.event_loop.EventLoop.next_event.Goals.{then-self+in-Ok-None}
+use Rattle.acct_net.proofs.event_loop.EventLoop.next_event.Goals.{then-self+in_default}
+use Rattle.acct_net.proofs.event_loop.EventLoop.next_event.Goals.{else-self+in-Ok-None-next_datagram}
+use Rattle.acct_net.proofs.event_loop.EventLoop.next_event.Goals.{else-self+in_default-next_datagram}
+use Rattle.acct_net.proofs.event_loop.EventLoop.next_event.Goals.{in_default-next_datagram-via-in-Ok+in-Some-1, in_default-next_datagram-via-in-Err-1}
 
--- what follows from an error does so from each
+-- what holds anyway holds after an error
 on_err : {T E P : Type 0} (result : Result T E) → P → OnErr result P
 on_err (Ok value) fact = tt
 on_err (Err error) fact = fact
 
+-- what follows from what an error says holds after it
 lift : {T E P Q : Type 0} (result : Result T E) → (P → Q) → OnErr result P → OnErr result Q
 lift (Ok value) follows fact = tt
 lift (Err error) follows fact = follows fact
