@@ -93,7 +93,7 @@ def read(words):
 
 
 def choices(rng, kind):
-    """What a site chose. The kind takes turns, so that each comes up soon."""
+    """What a site chose. What a number says takes turns, so that each comes up soon."""
     found = {
         "realms": rng.choice(["", "campus.example", "Staff.example Campus.example short.example"]),
         "strip": rng.choice(["yes", "no"]), "hold": rng.choice(["yes", "yes", "no"]),
@@ -103,8 +103,9 @@ def choices(rng, kind):
         "if_old": rng.choice(["last", "last", "last", "accept", "refuse", "lsat"]),
         "is_old": rng.random() < 0.5, "last_quota": rng.choice([500, 100, 7]),
     }
-    kinds = [{}, {"names_device": True}, {"shards": True}, {"pair": True}, {"proxied": "yes"}]
-    return Choices(**found, **kinds[kind % len(kinds)])
+    kinds = [{"is_old": False}, {"names_device": True, "is_old": True, "if_old": "last"},
+             {"shards": True}, {"pair": True, "is_old": False}, {"proxied": "yes"}]
+    return Choices(**{**found, **kinds[kind % len(kinds)]})
 
 
 class Life:

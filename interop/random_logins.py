@@ -16,6 +16,11 @@ from random_site import Asker, Site
 
 EACH, MOST, SHOWN = 500, 2000, 5
 PLAN, MESSAGE, TIMEOUT = 87, 18, 27
+# What the other server's reply to a visitor has, and some of it.
+HIS_NAME, HIS_CLASS = 34, 35
+NAMES_AWAY = [b"al", b"real@AWAY.example", b"x@both.example", b"1234567890", b"al@campus.example",
+              b"bo@a.pattern.example", b"nick@away.example"]
+CLASSES_AWAY = [b"gold", b"home", b"gold;radacctd;;al;", b"hour", b"x" * 200 + b";radacctd;;bo;"]
 ACCEPT = 2
 SPENT, NOBODY = b"Your allowance is spent.", b"This name cannot be charged."
 WAIT = b"Please try again in some minutes."
@@ -91,14 +96,16 @@ def outcome(login, choices, money):
     alone = "client" if client.radacctd == "no" or client.name in choices.left_out.split() else None
     if said.number(SERVICE) in model.MANAGES:
         alone = "administrator"
-    if realm is not None and model.is_away(realm) and choices.proxied == "no":
+    is_away = realm is not None and model.is_away(realm)
+    if is_away and choices.proxied == "no":
         alone = "visitor"
+    its_name, its_class = (said.text(it) if is_away else None for it in (HIS_NAME, HIS_CLASS))
     if alone:
-        return Wanted(alone, reply={CLASS: asked})
-    plan = asked or choices.plan.encode() or None
+        return Wanted(alone, reply=visited(name, its_name, asked or its_class))
+    plan = asked or its_class or choices.plan.encode() or None
     if plan is not None and plan not in PLANS:
         plan = b"default"
-    payer, reply = name, {CLASS: plan}
+    payer, reply = its_name or name, {CLASS: plan, NAME: its_name}
     if realm == model.STRIPPED and choices.strip == "yes" and choices.proxied == "no":
         payer = reply[NAME] = name.rpartition(b"@")[0]
     if not draw.may(payer):
@@ -113,6 +120,14 @@ def outcome(login, choices, money):
     else:
         found.reply.update(told(quota, plan or b"default", client, choices))
     return found
+
+
+def visited(name, its_name, its_class):
+    """What a reply keeps of another server's: no name of another realm, and no Class of ours."""
+    realms = [it and (b"@" in it, it.rpartition(b"@")[2].lower()) for it in (name, its_name)]
+    is_ours = its_class and b";radacctd;" in its_class
+    return {NAME: its_name if realms[0] == realms[1] else None,
+            CLASS: None if is_ours else its_class}
 
 
 def told(octets, plan, client, choices):
@@ -189,6 +204,7 @@ class Round:
         self.rng = random.Random(f"{seed}/logins/{number}")
         self.choices = draw.choices(self.rng, number)
         names = [*draw.PLAIN, *draw.ODD, *(draw.name_of(self.rng) for _ in range(200))]
+        names += NAMES_AWAY
         self.names = [it for it in names if it]
         self.accounts = {it: self.rng.choice(BALANCES) for it in [*self.names, *map(bare, names)]}
         self.site = Site(folder, self.choices, self.accounts)
@@ -217,6 +233,9 @@ class Round:
             found.append((SERVICE, draw.number(rng.choice([1, 2, 6, 7, 10]))))
         if rng.random() < 0.3:
             found.append((SESSION, rng.choice(draw.IDS)))
+        for kind, values in ((HIS_NAME, NAMES_AWAY), (HIS_CLASS, CLASSES_AWAY)):
+            if rng.random() < 0.4:
+                found.append((kind, rng.choice(values)))
         return Login(rng.choice(draw.CLIENTS), found, self.mark)
 
     def send(self, count):

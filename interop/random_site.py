@@ -107,6 +107,8 @@ server default {{
 # FreeRADIUS sends Disconnect-Requests there.
 COA_PORT = 3799
 NO_READERS = "# What is queued stays, so that it can be read.\n"
+# What a visitor's login asks the other server to have in its Access-Accept: a name and a Class.
+HOME = {34: model.NAME, 35: model.CLASS}
 # To a login Access-Accept, to a report, and to a Disconnect-Request.
 ANSWERS = {1: 2, 4: 5, 40: 41}
 
@@ -131,10 +133,12 @@ class Ear(threading.Thread):
         packet, sender = opened.recvfrom(4096)
         found = list(pairs_of(packet))
         self.heard.append(found)
-        states = b"".join(attribute(*it) for it in found if it[0] == 33)
-        head = bytes([ANSWERS[packet[0]], packet[1]]) + (20 + len(states)).to_bytes(2, "big")
-        proof = hashlib.md5(head + packet[4:20] + states + self.secret).digest()
-        opened.sendto(head + proof + states, sender)
+        body = b"".join(attribute(*it) for it in found if it[0] == 33)
+        if packet[0] == 1:
+            body += b"".join(attribute(HOME[it[0]], it[1]) for it in found if it[0] in HOME)
+        head = bytes([ANSWERS[packet[0]], packet[1]]) + (20 + len(body)).to_bytes(2, "big")
+        proof = hashlib.md5(head + packet[4:20] + body + self.secret).digest()
+        opened.sendto(head + proof + body, sender)
 
 
 def neighbours(count, address):
