@@ -141,26 +141,19 @@ def making(shop):
     os.rename(f"{shop.folder}/away", f"{shop.folder}/settings.json")
 
 
-def old_stock(shop):
-    """A stock of an earlier version: codes without sheets."""
-    codes = [it.code for it in stocks_of(shop)]
-    shop.write("stock/stock.csv", "code,sum\n" + "".join(f"{it},500\n" for it in codes))
-    _, more = shop.make(2)
-    found = {it.code: it.sheet for it in stocks_of(shop)}
-    got = len(found), set(more) < set(found)
-    check("an older stock gets sheets", got, (len(codes) + 2, True))
-    wanted = f"older sheets: {len(codes)} of 5.00 zł: live {len(codes)}, given 0, withdrawn 0\n"
-    check("and is listed", wanted in shop("--list")[1], True)
+def in_file(shop):
+    """A code is named by a file as a spreadsheet writes it."""
+    _, codes = shop.make(3)
     shop.write("one.csv", f"\ufeffcode;sum\n{codes[0]};500\n")
     status, output, _ = shop("--withdraw", "one.csv")
     told = "withdrawn: 1 codes" in output
-    check("its codes are withdrawn by their file", (status, told), (0, True))
+    check("a code is withdrawn by a file", (status, told), (0, True))
 
 
 def stocks_of(shop):
     with open(shop.stock, encoding="ascii", newline="") as file:
         rows = list(csv.reader(file))[1:]
-    return [collections.namedtuple("Row", "code sum sheet")(*(it + [""])[:3]) for it in rows]
+    return [collections.namedtuple("Row", "code sum sheet")(*it) for it in rows]
 
 
 def withdrawing(shop, site):
@@ -546,8 +539,7 @@ def test(folder, prefix, make_site):
     try:
         outbox_names(f"{folder}/outbox", sites)
         outbox_unheard(f"{folder}/unheard", sites)
-        shop.make(3)
-        old_stock(shop)
+        in_file(shop)
         withdrawing(shop, sites[0])
         stopped_tool(shop)
         full_disk(shop, sites[0])

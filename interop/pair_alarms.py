@@ -104,7 +104,7 @@ def by_a_code(test, first):
     code = body + letters[weight % len(letters)]
     stock = os.path.join(test.folder, "stock.csv")
     with open(stock, "w", encoding="ascii") as file:
-        file.write(f"code,sum\n{code[:5]}-{code[5:10]}-{code[10:]},30\n")
+        file.write(f"code,sum,sheet\n{code[:5]}-{code[5:10]}-{code[10:]},30,one\n")
     text = json.dumps({"account": "user6", "code": code})
     given = {"CONTENT_LENGTH": str(len(text)), "RADACCTD_STOCK": stock, "RADACCTD_KEY": first.key}
     given["RADACCTD_DESKS"] = f"127.0.0.1:{first.outbox_port}"

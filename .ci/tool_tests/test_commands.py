@@ -311,13 +311,12 @@ class Stock(unittest.TestCase):
         rows = [f"{it},{100 + at},vouchers-1\n" for at, it in enumerate(codes[:23])]
         with tempfile.TemporaryDirectory() as folder:
             path = os.path.join(folder, "stock.csv")
-            for text, old in (("code,sum,sheet\n", rows), ("code,sum\n", [f"{codes[0]},100\n"])):
-                with open(path, "w", encoding="ascii") as file:
-                    file.write(text + "".join(old))
-                    # A line without its end was never written whole; and no sheet is a code.
-                    file.write(f"{codes[22]},9,{codes[1]},\n{codes[2]},7" if old == rows else "")
-                found = [stock.worth(path, it) for it in codes[:3]]
-                self.assertEqual(found, [100, 101, 102] if old == rows else [100, None, None])
+            with open(path, "w", encoding="ascii") as file:
+                file.write("code,sum,sheet\n" + "".join(rows))
+                # A line without its end was never written whole; and no sheet is a code.
+                file.write(f"{codes[22]},9,{codes[1]},\n{codes[2]},7")
+            found = [stock.worth(path, it) for it in codes[:3]]
+            self.assertEqual(found, [100, 101, 102])
             self.assertIsNone(stock.worth(os.path.join(folder, "none"), codes[0]))
 
     def test_the_state_is_that_of_the_code_alone(self):
@@ -434,7 +433,7 @@ class Redeem(Folder):
         """
         code, body = stock.new_code(), b'{"result":"new"}'
         files.make(f"{self.folder}/key", b"k" * 16)
-        files.make(f"{self.folder}/stock.csv", f"code,sum\n{code},500\n".encode())
+        files.make(f"{self.folder}/stock.csv", f"code,sum,sheet\n{code},500,vouchers-1\n".encode())
 
         class Desk(http.server.BaseHTTPRequestHandler):
             def do_POST(self):

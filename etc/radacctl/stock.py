@@ -2,7 +2,7 @@
 
 In the stock's folder are
 
-    stock.csv         code,sum,sheet: root writes it. Older ones have no sheet.
+    stock.csv         code,sum,sheet: root writes it
     withdrawn.csv     moment,code,sheet: root adds to it. What is in it cannot be redeemed.
     given/given.csv   moment,event,code,account,desks: radacctd-redeem adds to it
 
@@ -29,7 +29,7 @@ SECOND = "/var/lib/radacctd-withdrawn/withdrawn.csv"
 # No letter or digit that looks like another one: 23 of them. A code has 14, which are 63 bits.
 LETTERS, GROUP, RANDOM = "ACDEFHJKMNPQRTUWXY34679", 5, 14
 CODE = re.compile(f"[{LETTERS}]{{15}}")
-STOCK_HEADER, OLD_HEADER = b"code,sum,sheet\n", b"code,sum\n"
+STOCK_HEADER = b"code,sum,sheet\n"
 WITHDRAWN_HEADER = b"moment,code,sheet\n"
 GIVEN_HEADER = b"moment,event,code,account,desks\n"
 # A code is for an account from now on; a desk took it; or a desk refused it, so it is free again.
@@ -70,7 +70,7 @@ def code_of(text):
     return "-".join(code[at : at + GROUP] for at in range(0, len(code), GROUP))
 
 
-def whole_lines(path, header, may_be_old=False):
+def whole_lines(path, header):
     """The whole lines of a file of ours, behind its header; none if there is no file.
 
     A user's file cannot stop the reader or lead it elsewhere: it is no link, and no pipe.
@@ -85,12 +85,9 @@ def whole_lines(path, header, may_be_old=False):
     except OSError as fault:
         raise Fault(f"cannot read {path}: {fault.strerror or fault}") from None
     text = text[: text.rfind(b"\n") + 1]
-    for it in (header, OLD_HEADER) if may_be_old else (header,):
-        if text.startswith(it):
-            return text[len(it) :]
-    if text:
+    if text and not text.startswith(header):
         raise Fault(f"{path} does not begin with the line {header.decode().strip()}")
-    return b""
+    return text[len(header) :]
 
 
 def rows_in(path, header):
@@ -100,13 +97,10 @@ def rows_in(path, header):
     return [list(map(names.text_of_cell, it)) for it in rows if len(it) == header.count(b",") + 1]
 
 
-def stock_lines(path):
-    return whole_lines(path, STOCK_HEADER, may_be_old=True)
-
-
 def worth(path, code):
     """What the stock says that a code is worth, or None."""
-    found = next(lines_with(b"\n" + stock_lines(path), b"\n%s," % code.encode()), b",").split(b",")
+    text = b"\n" + whole_lines(path, STOCK_HEADER)
+    found = next(lines_with(text, b"\n%s," % code.encode()), b",").split(b",")
     return int(found[1]) if re.fullmatch(b"[0-9]{1,13}", found[1]) else None
 
 

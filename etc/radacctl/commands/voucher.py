@@ -35,9 +35,7 @@ withdrawn), and with 2 for a bad command line.
 
 import collections
 import contextlib
-import csv
 import datetime
-import io
 import os
 import re
 import sys
@@ -75,11 +73,10 @@ def own(handle):
 
 
 def rows_of(path):
-    """The codes of the stock. An older line has no sheet."""
-    text = stocks.stock_lines(path).decode("ascii", "replace")
-    for row in csv.reader(io.StringIO(text, newline="")):
-        if len(row) in (2, 3) and row[1].isdigit():
-            yield Row(row[0], int(row[1]), row[2] if len(row) == 3 else "")
+    """The codes of the stock."""
+    for code, total, sheet in stocks.rows_in(path, stocks.STOCK_HEADER):
+        if total.isdigit():
+            yield Row(code, int(total), sheet)
 
 
 def add_to_stock(path, codes, total, sheet):
@@ -295,7 +292,7 @@ def show(words, money):
         counts = f"live {found[LIVE]}, given {found[GIVEN]}, withdrawn {found[WITHDRAWN]}"
         if found[UNANSWERED]:
             counts += f", unanswered {found[UNANSWERED]}"
-        print(f"{sheet or 'older sheets'}: {len(rows)} of {worth}: {counts}")
+        print(f"{sheet}: {len(rows)} of {worth}: {counts}")
     return 0
 
 
