@@ -55,10 +55,12 @@ class Client:
     radacctd: str = "yes"
 
     def lines(self, secret):
+        """The client. A line that says what holds without it is left out."""
         own = {"ipaddr": self.source, "secret": secret}
-        own |= {f"radacctd_{it}": getattr(self, it)
-                for it in ("stamp", "remember", "services", "wraps", "cut", "quota")}
-        own |= {} if self.radacctd == "yes" else {"radacctd": self.radacctd}
+        for it in dataclasses.fields(self)[2:]:
+            if getattr(self, it.name) != it.default:
+                name = it.name if it.name == "radacctd" else f"radacctd_{it.name}"
+                own[name] = getattr(self, it.name)
         text = "".join(f"\t{name} = {value}\n" for name, value in own.items())
         return f"client {self.name} {{\n{text}}}\n"
 
