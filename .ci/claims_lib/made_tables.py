@@ -241,7 +241,7 @@ def by_eye(_checker):
     total = sum(count for _, count, _ in openers.by_eye())
     yield ""
     most = openers.MOST_BY_EYE
-    yield f"They have {total} lines without comments; above {most} `.ci/claims` fails."
+    yield f"They have {total} lines without comments and clauses; above {most} `.ci/claims` fails."
 
 
 def by_hand(checker):

@@ -122,7 +122,7 @@ BY_EYE = (
     ),
     ("crates/acct_net/src/datagrams.rt", "send_waiting", "it sends the octets that it is given"),
 )
-MOST_BY_EYE = 210
+MOST_BY_EYE = 209
 MOST_OF_CHANGES = 120
 
 USE = re.compile(r"^\s*(?:pub(?:\([^)]*\))? )?use ([^;]+);", re.M)
@@ -192,14 +192,18 @@ def function_in(text, name):
     return text[found.start() : text.index(f"\n{found[1]}}}", found.end()) + 2] if found else ""
 
 
+# What the prover holds a body to is not for a person's eye.
+CLAUSE = re.compile(r"\s*(?:ensures|requires|ghost use)\b")
+
+
 def by_eye():
-    """What a person reads: how a page names it, its lines without comments, and why."""
+    """What a person reads: how a page names it, its lines without comments and clauses, and why."""
     for path, name, why in BY_EYE:
         text = without_comments(text_of(path))
         text = function_in(text, name) if name else text
         file = f"`{path.removeprefix('crates/')}`"
         cell = f"`{name}` ({file})" if name else file
-        yield cell, sum(bool(it.strip()) for it in text.splitlines()), why
+        yield cell, sum(bool(it.strip() and not CLAUSE.match(it)) for it in text.splitlines()), why
 
 
 def check_by_eye(checker):

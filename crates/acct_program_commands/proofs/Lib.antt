@@ -8,3 +8,5 @@ pub mod Elements
 pub mod Forwarded
 -- what the end of an audit means
 pub mod Audited
+-- what is put in the place of a file
+pub mod Placed

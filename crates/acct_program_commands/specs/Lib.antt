@@ -1,6 +1,7 @@
 pub mod Auditing
 pub mod BookClock
 pub mod Checks
+pub mod Counted
 pub mod Drops
 pub mod Endings
 pub mod Exports
@@ -10,7 +11,11 @@ pub mod Fresh
 pub mod Imports
 pub mod KeptNames
 pub mod Looks
+pub mod Minutes
+pub mod Names
 pub mod NewSite
+pub mod Placed
+pub mod RoundStates
 pub mod Rounds
 pub mod Sights
 pub mod Tally

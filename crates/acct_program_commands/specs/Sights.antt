@@ -9,3 +9,8 @@ Reading = Result (List ℕ) InputFault
 -- a reading, if the text changed since the last poll
 abbrev pub Sight : Type 0
 Sight = Option Reading
+
+-- a poll: its moment, in seconds since 1970, and what it returned
+pub record Poll : Type 0 where
+  pub moment : ℕ
+  pub sight : Sight

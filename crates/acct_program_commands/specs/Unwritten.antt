@@ -1,5 +1,5 @@
--- A file that is rewritten from time to time, before its first write.
-use Rattle.std.specs.Prelude.{◌≡◌, ℕ, false, List, ◌++◌, Option, None, codes}
+-- A file that is rewritten from time to time: before its first write, and at each one.
+use Rattle.std.specs.Prelude.{◌≡◌, ℕ, false, List, ◌++◌, Option, None, Some, codes}
 use Rattle.acct_program_commands.specs.declared.fresh_file.FreshFile.{FreshFile}
 
 -- nothing was written yet, and no write failed
@@ -17,3 +17,8 @@ unwritten name mode pause = record {
 abbrev pub IsBegun : Option ℕ → FreshFile → FreshFile → Type 0
 IsBegun begun_at old new =
     new ≡ record old { begun_at = begun_at; is_failing = new.is_failing }
+
+-- A write of it began at this moment. If the write did not fail, the file was put at its name.
+abbrev pub Rewrites : (List ℕ → Type 0) → ℕ → FreshFile → FreshFile → Type 0
+Rewrites IsPut moment old new =
+    IsBegun (Some moment) old new × (new.is_failing ≡ false → IsPut old.name)

@@ -1,6 +1,4 @@
 -- What private functions and proofs need, and no public contract reaches.
-pub mod Minutes
-pub mod Names
 pub mod Stops
 pub mod Sums
 pub mod ToldDrops

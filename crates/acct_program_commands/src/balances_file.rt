@@ -3,11 +3,12 @@
 //!
 //! It is written after a slice of turns, at most once in so many seconds. A failed write changes
 //! nothing else. It is printed once, until a write succeeds again.
-ghost use Rattle.std.specs.Prelude.{◌≡◌, IfOk};
+ghost use Rattle.std.specs.Prelude.{◌≡◌, IfOk, OnOk};
 ghost use Rattle.acct_book.specs.Step.{OnlyLooks};
 ghost use Rattle.acct_program_commands.specs.Exports.{Exports};
 ghost use Rattle.acct_program_commands.specs.Fresh.{IsDue};
-ghost use Rattle.acct_program_commands.specs.Unwritten.{unwritten, IsBegun};
+ghost use Rattle.acct_program_commands.specs.Placed.{PutsBalances};
+ghost use Rattle.acct_program_commands.specs.Unwritten.{unwritten, Rewrites};
 
 use crate::counted_lines::CountedLines;
 use crate::exporting::run_export;
@@ -58,7 +59,8 @@ impl<'r, R: ReplacesFiles> KeptBalances<'r, R> {
     )
         ensures looks { OnlyLooks B.Book book.old book.new }
         ensures due { IsDue self.old.file.pause self.old.file.begun_at moment
-            → IsBegun (Some moment) self.old.file self.new.file }
+            → Rewrites (λ name. PutsBalances (R.was_put name) plans.now (B.content book.old)
+            (B.is_open book.new)) moment self.old.file self.new.file }
         ensures idle { ¬ IsDue self.old.file.pause self.old.file.begun_at moment
             → self.new.file ≡ self.old.file }
     {
@@ -109,9 +111,12 @@ fn write_file<R: ReplacesFiles, B: Book>(
     plans: &Plans,
     book: &mut B,
 ) -> Result<(u64, u64), Fault>
-    ensures { OnlyLooks B.Book book.old book.new }
+    ensures looks { OnlyLooks B.Book book.old book.new }
+    ensures put { OnOk result (PutsBalances (R.was_put file.now.name) plans.now
+        (B.content book.old) (B.is_open book.new)) }
 {
     let written = write_rows(alloc, plans, book, file.begin(runtime)?)?;
-    file.finish(runtime)?;
-    Ok((written.accounts(), written.overdrawn()))
+    let counts = (written.accounts(), written.overdrawn());
+    file.finish(runtime, written.writer)?;
+    Ok(counts)
 }

@@ -2,8 +2,8 @@
 //!
 //! A server goes on with the files that it opened. If a name leads to another file, or to none, what
 //! it records is in no file that the next start finds. So it is looked at while the server runs.
-ghost use Rattle.std.specs.Prelude.{◌≡◌, ◌⊎◌, false, None, Some, IfOk, not};
-ghost use Rattle.acct_program_commands.specs.inner.Names.{KeepsName, away_of};
+ghost use Rattle.std.specs.Prelude.{◌≡◌, false, Option, Bool, None, Some, IfOk, not};
+ghost use Rattle.acct_program_commands.specs.Names.{LooksAtName, LooksAtNames, LooksOnceAt, away_of, seen_of};
 
 use crate::gauges::Gauges;
 use acct_model::Text;
@@ -20,6 +20,8 @@ pub struct BookNames<'r, R> {
     log: Name,
     // When they were looked at, in seconds since 1970.
     looked_at: Option<u64>,
+    // Whether one leads elsewhere, as far as is known.
+    is_away: bool,
     is_told: bool,
 }
 
@@ -30,6 +32,7 @@ impl<'r, R> Drop for BookNames<'r, R> {
             book: _,
             log: _,
             looked_at: _,
+            is_away: _,
             is_told: _,
         } = self;
     }
@@ -43,7 +46,8 @@ impl<'r, R: ReadsFiles> BookNames<'r, R> {
     /// If there is no memory for the names.
     pub fn new(runtime: &'r R, alloc: Global, book: &Text) -> Result<BookNames<'r, R>, AllocError>
         ensures book { IfOk result (λ names. names.book.path ≡ book.now) }
-        ensures unseen { IfOk result (λ names. (names.looked_at ≡ None) × (names.is_told ≡ false)) }
+        ensures unseen { IfOk result (λ names. (names.looked_at ≡ None) × (names.is_away ≡ false)
+            × (names.is_told ≡ false)) }
     {
         let name = book.as_str();
         let log = log_of(runtime, alloc, name)?;
@@ -52,6 +56,7 @@ impl<'r, R: ReadsFiles> BookNames<'r, R> {
             book: Name::new(book.copy(alloc)?),
             log: Name::new(log),
             looked_at: None,
+            is_away: false,
             is_told: false,
         };
         names.lead_elsewhere();
@@ -62,26 +67,41 @@ impl<'r, R: ReadsFiles> BookNames<'r, R> {
     /// leads elsewhere. If the next look finds that, too, or finds them back, a line says so. A look
     /// that fails tells nothing, and all stays as it was.
     pub fn look<E: Write>(&mut self, moment: u64, gauges: &Gauges, errors: &mut E)
-        ensures looked { self.new.looked_at ≡ Some moment }
-        ensures book { KeepsName self.old.book self.new.book }
-        ensures log { KeepsName self.old.log self.new.log }
+        ensures { LooksOnceAt moment (seen_of self.old) (seen_of self.new) }
     {
         if self.looked_at == Some(moment) {
             return;
         }
+        let was_away = self.is_away;
+        if self.look_again(moment) {
+            gauges.note_away(self.is_away);
+            self.tell_change(was_away, errors);
+        }
+    }
+
+    // Looks where they lead. Returns whether that is known.
+    fn look_again(&mut self, moment: u64) -> bool
+        ensures looked { self.new.looked_at ≡ Some moment }
+        ensures looks { LooksAtNames (seen_of self.old) (seen_of self.new) }
+    {
         self.looked_at = Some(moment);
-        let was_away = gauges.is_away();
         let Some(is_away) = self.lead_elsewhere() else {
-            return;
+            return false;
         };
-        gauges.note_away(is_away);
-        if is_away && was_away && !self.is_told {
+        self.is_away = is_away;
+        true
+    }
+
+    // Prints a line if two looks in turn found that one leads elsewhere, or if both are back.
+    fn tell_change<E: Write>(&mut self, was_away: bool, errors: &mut E)
+        ensures { seen_of self.new ≡ seen_of self.old }
+    {
+        if self.is_away && was_away && !self.is_told {
             self.tell(
                 errors,
                 "leads to another file or to none: nothing is answered",
             );
-        }
-        if !is_away && self.is_told {
+        } else if !self.is_away && self.is_told {
             self.tell(errors, "leads to its file again");
         }
     }
@@ -90,8 +110,8 @@ impl<'r, R: ReadsFiles> BookNames<'r, R> {
     // known to, and of one it cannot be told.
     fn lead_elsewhere(&mut self) -> Option<bool>
         ensures same { self.new ≡ record self.old { book = self.new.book; log = self.new.log } }
-        ensures book { KeepsName self.old.book self.new.book }
-        ensures log { KeepsName self.old.log self.new.log }
+        ensures says { (book log : Option Bool) × LooksAtName self.old.book self.new.book book
+            × LooksAtName self.old.log self.new.log log × (result ≡ away_of book log) }
     {
         let book = self.book.leads_elsewhere(self.runtime);
         let log = self.log.leads_elsewhere(self.runtime);
@@ -136,11 +156,23 @@ pub(crate) fn log_of<R: ReadsFiles>(
     Ok(Text { text })
 }
 
-// A file's name, and the file to which it led first.
+// A file's name, the file to which it led first, and where it led last.
 #[derive(Drop)]
 struct Name {
     path: Text,
     first: Option<FileNumber>,
+    target: Target,
+}
+
+// Where a name leads.
+#[derive(Clone, Copy)]
+enum Target {
+    // To this file.
+    File(FileNumber),
+    // To none.
+    Nothing,
+    // The look failed.
+    Unknown,
 }
 
 /// What distinguishes a file from each other one of a system.
@@ -163,27 +195,36 @@ impl FileNumber {
 impl Name {
     // A name that was not looked at yet.
     fn new(path: Text) -> Name
-        ensures { result ≡ record { path = path; first = None } }
+        ensures { result ≡ record { path = path; first = None; target = Target.Unknown } }
     {
-        Name { path, first: None }
+        Name {
+            path,
+            first: None,
+            target: Target::Unknown,
+        }
     }
 
-    // Whether it leads to another file than at first, or to none. `None` if the look fails for
-    // another reason.
+    // Looks where it leads. Returns whether that is another file than at first, or none, if it is
+    // known.
     fn leads_elsewhere<R: ReadsFiles>(&mut self, runtime: &R) -> Option<bool>
-        ensures kept { KeepsName self.old self.new }
-        ensures unseen { self.new.first ≡ None → (result ≡ Some false) ⊎ (result ≡ None) }
+        ensures { LooksAtName self.old self.new result }
     {
-        let found = match runtime.metadata(self.path.as_str()) {
-            Ok(found) => FileNumber::of(&found),
-            Err(error) => {
-                return match error.kind() {
-                    ErrorKind::NotFound | ErrorKind::NotADirectory => Some(self.first.is_some()),
-                    _ => None,
-                };
-            }
-        };
-        let first = *self.first.get_or_insert(found);
-        Some(first != found)
+        self.target = target_of(runtime, self.path.as_str());
+        match self.target {
+            Target::Unknown => None,
+            Target::Nothing => Some(self.first.is_some()),
+            Target::File(file) => Some(*self.first.get_or_insert(file) != file),
+        }
+    }
+}
+
+// Where a name leads.
+fn target_of<R: ReadsFiles>(runtime: &R, path: &str) -> Target {
+    match runtime.metadata(path) {
+        Ok(found) => Target::File(FileNumber::of(&found)),
+        Err(error) => match error.kind() {
+            ErrorKind::NotFound | ErrorKind::NotADirectory => Target::Nothing,
+            _ => Target::Unknown,
+        },
     }
 }

@@ -3,8 +3,9 @@
 //! No contract of std says what such a call does to a file. So they are all here, for a person to
 //! read: `.ci/claims` fails if another source can make one. Only the store writes a book's two
 //! files, and the contracts on it say what it leaves of them.
-ghost use Rattle.std.specs.Prelude.{◌≡◌, true, false};
+ghost use Rattle.std.specs.Prelude.{◌≡◌, ⊤, ℕ, List, Option, None, IfOk, OnOk, true, false};
 ghost use Rattle.std.specs.Fs.{asks_create, asks_create_new, asks_truncate};
+ghost use Rattle.acct_program_commands.specs.Placed.{IsEmpty};
 
 use acct_reads::ReadsFiles;
 use std::fs::{Files, OpenFile, OpenOptions, Permissions};
@@ -12,39 +13,69 @@ use std::io::Write;
 use std::os::unix::fs::{OpenOptionsExt, PermissionsExt};
 use std::{fs, io};
 
-/// The files of the system, to be made and replaced, and looked at.
+/// The files of the system, to be replaced, and looked at.
 pub trait ReplacesFiles: ReadsFiles {
     /// A file that is being written.
     type Writer: Write + Drop;
 
+    /// A file was put at this name, and had these octets, if they are known. Only `put_in_place`
+    /// gives this.
+    ghost was_put: { List ℕ → Option (List ℕ) → Type 0 };
+
     /// Opens an empty file, and gives it a mode. If there is a file of this name, it is emptied.
-    fn open_empty(&self, name: &str, mode: u32) -> io::Result<Self::Writer>;
+    fn open_empty(&self, name: &str, mode: u32) -> io::Result<Self::Writer>
+        ensures empty { IfOk result (λ file. IsEmpty (Self.Writer.contents file)) };
 
-    /// Gives a file the name of another one, which is gone by that. Whoever opens a file by this
-    /// name finds one of the two, and it is whole.
-    fn put_in_place(&self, new_name: &str, name: &str) -> io::Result<()>;
+    /// Closes a file that was written as `new_name`, and gives it the name of another one, which is
+    /// gone by that. Whoever opens a file by this name finds one of the two, and it is whole.
+    fn put_in_place(&self, file: Self::Writer, new_name: &str, name: &str) -> io::Result<()>
+        ensures put { OnOk result (was_put name.now (Self.Writer.contents file)) };
+}
 
+/// The files of the system, to be made.
+pub trait MakesFiles {
     /// Makes an empty file that only its owner can read and write, if there is none of this name.
     /// Else it changes nothing.
     fn make_private(&self, name: &str);
 }
 
-impl<R: Files> ReplacesFiles for R {
-    type Writer = R::File;
+/// A file of the system that is being written. No contract of std says what it has.
+#[derive(Drop)]
+pub struct NewFile<F: Drop>(F);
 
-    fn open_empty(&self, name: &str, mode: u32) -> io::Result<R::File> {
+impl<F: Write + Drop> Write for NewFile<F> {
+    ghost contents = { λ _. None };
+
+    fn write(&mut self, octets: &[u8]) -> io::Result<usize> {
+        self.0.write(octets)
+    }
+
+    fn flush(&mut self) -> io::Result<()> {
+        self.0.flush()
+    }
+}
+
+impl<R: Files> ReplacesFiles for R {
+    type Writer = NewFile<R::File>;
+
+    ghost was_put = { λ _ _. ⊤ };
+
+    fn open_empty(&self, name: &str, mode: u32) -> io::Result<Self::Writer> {
         let mut options = OpenOptions::new();
         options.write(true).create(true).truncate(true).mode(mode);
         let file = options.open(self, name)?;
         // A new file has the mode less the program's umask, and an existing one keeps its own.
         let _ = file.set_permissions(Permissions::from_mode(mode));
-        Ok(file)
+        Ok(NewFile(file))
     }
 
-    fn put_in_place(&self, new_name: &str, name: &str) -> io::Result<()> {
+    fn put_in_place(&self, file: Self::Writer, new_name: &str, name: &str) -> io::Result<()> {
+        drop(file);
         fs::rename(self, new_name, name)
     }
+}
 
+impl<R: Files> MakesFiles for R {
     fn make_private(&self, name: &str) {
         // Whoever needs the file opens it next, and reports what is wrong.
         let _ = private_options().open(self, name);

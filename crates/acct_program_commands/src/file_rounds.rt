@@ -1,10 +1,13 @@
 //! What the program's server does between slices of turns. It writes the file of balances, if that
 //! is due, looks where the names of its book lead, and takes another configuration, if its text
 //! changed.
-ghost use Rattle.std.specs.Prelude.{◌≡◌, false};
+ghost use Rattle.std.specs.Prelude.{◌≡◌, ⊤, IfSome, false};
 ghost use Rattle.acct_book.specs.Step.{OnlyLooks};
+ghost use Rattle.acct_program_commands.specs.NewSite.{PollsAndTakes};
+ghost use Rattle.acct_program_commands.specs.Placed.{IsPut, PutsBalances};
 ghost use Rattle.acct_program_commands.specs.Rounds.{GoesRound, KeepsAt, LooksAt};
-ghost use Rattle.acct_program_commands.specs.Rounds.{file_of, name_of};
+ghost use Rattle.acct_program_commands.specs.Rounds.{file_of, names_of};
+ghost use Rattle.acct_program_commands.specs.RoundStates.{state_of};
 
 use crate::balances_file::KeptBalances;
 use crate::book_names::BookNames;
@@ -13,6 +16,7 @@ use crate::gauges::Gauges;
 use crate::new_site::take_site;
 use crate::site_source::SiteSource;
 use acct_book::Book;
+use acct_model::Plans;
 use acct_reads::ReadsFiles;
 use acct_service::Rounds;
 use acct_site::Config;
@@ -72,18 +76,12 @@ impl<'r, R: ReplacesFiles, S: SiteSource + Drop, E: Write + Drop> FileRounds<'r,
 
 impl<'r, R: ReplacesFiles, S: SiteSource + Drop, E: Write + Drop> Rounds
     for FileRounds<'r, R, S, E> {
-    ghost goes = { λ old config gave new. GoesRound config.plans
-        (record {
-          sights = S.sights old.source;
-          moments = S.moments old.source;
-          balances = file_of old.balances;
-          name = name_of old.names;
-        }) gave (record {
-          sights = S.sights new.source;
-          moments = S.moments new.source;
-          balances = file_of new.balances;
-          name = name_of new.names;
-        }) };
+    ghost goes = { λ old config gave new. GoesRound (λ name. IsPut (R.was_put name)) config.plans
+        (state_of S.polls S.moments old) gave (state_of S.polls S.moments new) };
+
+    ghost shows = { λ old config content gave new.
+        GoesRound (λ name. PutsBalances (R.was_put name) config.plans content ⊤) config.plans
+        (state_of S.polls S.moments old) gave (state_of S.polls S.moments new) };
 
     ghost is_over = { λ _. false };
 
@@ -105,13 +103,15 @@ impl<'r, R: ReplacesFiles, S: SiteSource + Drop, E: Write + Drop> Rounds
             errors,
         );
         look_at(&mut self.names, moment, self.gauges, &mut self.errors);
-        let read = self.source.look(alloc, moment)?;
-        let taken = take_site(alloc, read, &config.plans, &mut self.errors);
-        self.gauges.note_config(taken.is_current);
-        if let Some(why) = taken.refused {
-            self.source.explain(alloc, why, &mut self.errors);
-        }
-        taken.site
+        let source = &mut self.source;
+        take_polled(
+            alloc,
+            source,
+            &config.plans,
+            moment,
+            self.gauges,
+            &mut self.errors,
+        )
     }
 
     fn is_over(&self) -> bool {
@@ -130,11 +130,36 @@ pub fn keep_at<R: ReplacesFiles, B: Book, E: Write>(
     errors: &mut E,
 )
     ensures looks { OnlyLooks B.Book book.old book.new }
-    ensures keeps { KeepsAt moment (file_of balances.old) (file_of balances.new) }
+    ensures keeps { KeepsAt (λ name. PutsBalances (R.was_put name) config.now.plans
+        (B.content book.old) (B.is_open book.new)) moment (file_of balances.old)
+        (file_of balances.new) }
 {
     if let Some(balances) = balances {
         balances.keep(alloc, &config.plans, book, moment, gauges, errors);
     }
+}
+
+// Polls the text at a moment, and takes a configuration with these plans from it.
+fn take_polled<S: SiteSource, E: Write>(
+    alloc: Global,
+    source: &mut S,
+    plans: &Plans,
+    moment: u64,
+    gauges: &Gauges,
+    errors: &mut E,
+) -> Option<Config>
+    ensures takes { PollsAndTakes moment plans.now (S.polls source.old) result
+        (S.polls source.new) }
+    ensures unread { S.moments source.new ≡ S.moments source.old }
+    ensures plans { IfSome result (λ site. site.plans ≡ plans.now) }
+{
+    let read = source.look(alloc, moment)?;
+    let taken = take_site(alloc, read, plans, errors);
+    gauges.note_config(taken.is_current);
+    if let Some(why) = taken.refused {
+        source.explain(alloc, why, errors);
+    }
+    taken.site
 }
 
 // Looks where the names of a book lead, if they are known.
@@ -144,7 +169,7 @@ fn look_at<R: ReadsFiles, E: Write>(
     gauges: &Gauges,
     errors: &mut E,
 )
-    ensures { LooksAt moment (name_of names.old) (name_of names.new) }
+    ensures { LooksAt moment (names_of names.old) (names_of names.new) }
 {
     if let Some(names) = names {
         names.look(moment, gauges, errors);

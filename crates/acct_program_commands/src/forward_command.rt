@@ -328,6 +328,7 @@ fn check_clock(found: &Totals, is_sure: bool, clock: ClockReading) -> Result<(),
     ensures right { OnOk result ((found.now.sessions.carried ≡ 0) ⊎ ((is_sure ≡ true)
         ⊎ (IsTrue found.now.is_heard × Agrees clock.moment clock.written_at))) }
     ensures why { IfErr result (IsClockFault is_sure clock.moment clock.written_at) }
+    ensures ahead { result ≡ Err Fault.ClockAhead → found.now.is_heard ≡ false }
 {
     if is_sure || found.sessions.carried == 0 {
         return Ok(());

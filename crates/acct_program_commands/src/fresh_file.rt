@@ -1,6 +1,7 @@
 //! A file that is rewritten from time to time.
 ghost use Rattle.std.specs.Prelude.{◌≡◌, ◌↔◌, IsTrue, IfOk, OnOk, Some, false, is_err};
 ghost use Rattle.acct_program_commands.specs.Fresh.{IsDue, TellsTrouble};
+ghost use Rattle.acct_program_commands.specs.Placed.{IsEmpty};
 ghost use Rattle.acct_program_commands.specs.Unwritten.{unwritten};
 
 use crate::fault::Fault;
@@ -74,7 +75,9 @@ impl FreshFile {
     /// # Errors
     ///
     /// Those of the system.
-    pub(crate) fn begin<R: ReplacesFiles>(&self, runtime: &R) -> io::Result<R::Writer> {
+    pub(crate) fn begin<R: ReplacesFiles>(&self, runtime: &R) -> io::Result<R::Writer>
+        ensures { IfOk result (λ file. IsEmpty (R.Writer.contents file)) }
+    {
         runtime.open_empty(self.new_name.as_str(), self.mode)
     }
 
@@ -83,8 +86,10 @@ impl FreshFile {
     /// # Errors
     ///
     /// Those of the system.
-    pub(crate) fn finish<R: ReplacesFiles>(&self, runtime: &R) -> io::Result<()> {
-        runtime.put_in_place(self.new_name.as_str(), self.name.as_str())
+    pub(crate) fn finish<R: ReplacesFiles>(&self, runtime: &R, file: R::Writer) -> io::Result<()>
+        ensures { OnOk result (R.was_put self.now.name (R.Writer.contents file)) }
+    {
+        runtime.put_in_place(file, self.new_name.as_str(), self.name.as_str())
     }
 
     /// Notes when a write began, if it is known, and whether it succeeded. The first failure is

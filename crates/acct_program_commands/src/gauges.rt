@@ -2,6 +2,8 @@
 //! its book is where its name leads, and what its file of balances has.
 //!
 //! The parts of a server that know these note them here. The file of counts is made from them.
+ghost use Rattle.std.specs.Prelude.{◌≡◌};
+
 use std::cell::Cell;
 
 /// The state of a server. At first its configuration is in force, its book is where its name leads,
@@ -54,7 +56,9 @@ impl Gauges {
     }
 
     /// The same, for those who have to know it in each turn.
-    pub fn away(&self) -> &Cell<bool> {
+    pub fn away(&self) -> &Cell<bool>
+        ensures { result.now ≡ self.now.is_away }
+    {
         &self.is_away
     }
 

@@ -38,7 +38,7 @@ pub use drop_log::{DropLog, Pair};
 pub use exporting::run_export;
 pub use fault::{Fault, StoreFault, end};
 pub use figures::{Figures, State, write_figures};
-pub use file_changes::ReplacesFiles;
+pub use file_changes::{MakesFiles, ReplacesFiles};
 pub use file_rounds::{FileRounds, keep_at};
 pub use forward_command::run_forward;
 pub use gauges::{BalancesWritten, Gauges};

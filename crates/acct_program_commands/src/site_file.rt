@@ -1,6 +1,7 @@
 //! The file of the configuration, which the server polls while it runs.
 ghost use Rattle.std.specs.Prelude.{◌≡◌, ◌∷◌, ◌<◌, ◌^◌, [], None, IsSome, IsTrue};
 ghost use Rattle.acct_service.specs.Told.{Grows};
+ghost use Rattle.acct_program_commands.specs.Sights.{Poll};
 ghost use Rattle.acct_program_commands.specs.Looks.{LooksOnce};
 
 use crate::book_names::FileNumber;
@@ -76,7 +77,7 @@ impl<'a, R: ReadsFiles> SiteFile<'a, R> {
 }
 
 impl<'a, R: ReadsFiles + Clock> SiteSource for SiteFile<'a, R> {
-    ghost sights = { λ _. None };
+    ghost polls = { λ _. None };
 
     ghost moments = { λ _. None };
 
@@ -88,7 +89,7 @@ impl<'a, R: ReadsFiles + Clock> SiteSource for SiteFile<'a, R> {
     }
 
     fn look(&mut self, alloc: Global, moment: u64) -> Option<Result<Octets, InputFault>>
-        ensures told { Grows None (result ∷ []) None }
+        ensures told { Grows {C = Poll} None (record { moment = moment; sight = result } ∷ []) None }
         ensures looked { LooksOnce moment self.old self.new (IsSome result) }
     {
         if !self.is_changed(moment) {

@@ -4,14 +4,13 @@
 //! It is written before the first turn's event is counted, then at the next turn after ten seconds
 //! or more, and at the end. A failed write changes nothing else. It is printed once, until a write
 //! succeeds again.
-ghost use Rattle.std.specs.Prelude.{◌≡◌, ◌^◌, ◌<◌, false, IfOk, replicate};
+ghost use Rattle.std.specs.Prelude.{◌≡◌, ◌^◌, ◌<◌, false, IfOk, OnOk, replicate};
 ghost use Rattle.acct_program_commands.specs.Fresh.{IsDue};
-ghost use Rattle.acct_program_commands.specs.Unwritten.{unwritten, IsBegun};
-ghost use Rattle.acct_program_commands.specs.Tally.{no_tally, with_mute, with_came, with_reply};
-ghost use Rattle.acct_program_commands.specs.Tally.{with_drop};
-ghost use Rattle.acct_program_commands.specs.Tally.{is_event, with_drop_for, last_event};
-ghost use Rattle.acct_program_commands.specs.Tally.{with_arrival};
-ghost use Rattle.acct_program_commands.specs.Tally.{has_datagram, is_request, with_report};
+ghost use Rattle.acct_program_commands.specs.Placed.{PutsFigures};
+ghost use Rattle.acct_program_commands.specs.Unwritten.{unwritten, IsBegun, Rewrites};
+ghost use Rattle.acct_program_commands.specs.Tally.{no_tally};
+ghost use Rattle.acct_program_commands.specs.Counted.{CountsAs, figures_of, muted, with_turn};
+ghost use Rattle.acct_program_commands.specs.Counted.{with_answer, with_refusal};
 
 use crate::book_names::log_of;
 use crate::fault::Fault as Trouble;
@@ -172,13 +171,7 @@ impl<'r, R: ReplacesFiles, E: Write> StatusFile<'r, R, E> {
 
     /// The counts so far.
     pub fn figures(&self) -> Figures
-        ensures tally { result.tally ≡ self.now.meter.tally }
-        ensures dropped { result.dropped ≡ self.now.dropped }
-        ensures started { result.started_at ≡ self.now.started_at }
-        ensures last { result.last_event_at ≡ self.now.last_event_at }
-        ensures datagrams { result.datagrams ≡ self.now.datagrams }
-        ensures reports { result.reports ≡ self.now.reports }
-        ensures requests { result.requests ≡ self.now.requests }
+        ensures { result ≡ figures_of self.now result.state }
     {
         Figures {
             tally: self.meter.tally,
@@ -194,22 +187,12 @@ impl<'r, R: ReplacesFiles, E: Write> StatusFile<'r, R, E> {
 
     // Writes the counts before a turn if the file is due at this moment, and then counts the turn.
     pub(crate) fn note_turn(&mut self, came: &Result<Option<Event>, Fault>, moment: u64)
-        ensures counts { self.new.meter.tally
-            ≡ with_came came.now (with_mute self.old.meter.is_unanswered self.old.meter.tally) }
-        ensures waits { self.new.meter.is_unanswered ≡ is_event came.now }
-        ensures dropped { self.new.dropped ≡ self.old.dropped }
-        ensures last { self.new.last_event_at ≡ last_event came.now self.old.last_event_at }
-        ensures started { self.new.started_at ≡ self.old.started_at }
-        ensures datagrams { self.new.datagrams
-            ≡ with_arrival (has_datagram came.now) came.now self.old.datagrams }
-        ensures reports { self.new.reports ≡ self.old.reports }
-        ensures requests { self.new.requests
-            ≡ with_arrival (is_request came.now) came.now self.old.requests }
+        ensures counts { CountsAs (with_turn came.now) (Some self.old) (Some self.new) }
         ensures due { IsDue self.old.file.pause self.old.file.begun_at moment
-            → IsBegun (Some moment) self.old.file self.new.file }
+            → Rewrites (λ name. (state : State) × PutsFigures (R.was_put name)
+            (figures_of (muted self.old) state)) moment self.old.file self.new.file }
         ensures idle { ¬ IsDue self.old.file.pause self.old.file.begun_at moment
             → self.new.file ≡ self.old.file }
-        ensures state { self.new.state ≡ self.old.state }
     {
         self.meter.note_mute();
         if self.file.is_due(moment) {
@@ -227,13 +210,7 @@ impl<'r, R: ReplacesFiles, E: Write> StatusFile<'r, R, E> {
 
     // Counts a reply to an event, which was taken or not.
     pub(crate) fn note_reply(&mut self, event: &Event, is_taken: bool)
-        ensures counts { self.new.meter.tally ≡ with_reply is_taken self.old.meter.tally }
-        ensures answered { self.new.meter.is_unanswered ≡ false }
-        ensures reports { self.new.reports ≡ with_report event.now.what self.old.reports }
-        ensures other { self.new ≡ record self.old {
-          meter = self.new.meter;
-          reports = self.new.reports;
-        } }
+        ensures { self.new ≡ with_answer event.now.what is_taken self.old }
     {
         self.meter.note_reply(is_taken);
         match &event.what {
@@ -244,13 +221,7 @@ impl<'r, R: ReplacesFiles, E: Write> StatusFile<'r, R, E> {
 
     // Counts a drop.
     pub(crate) fn note_drop(&mut self, reason: Reason)
-        ensures counts { self.new.meter.tally ≡ with_drop self.old.meter.tally }
-        ensures answered { self.new.meter.is_unanswered ≡ false }
-        ensures dropped { self.new.dropped ≡ with_drop_for reason self.old.dropped }
-        ensures other { self.new ≡ record self.old {
-          meter = self.new.meter;
-          dropped = self.new.dropped;
-        } }
+        ensures { self.new ≡ with_refusal reason self.old }
     {
         self.meter.note_drop();
         let place = reason.place();
@@ -260,6 +231,8 @@ impl<'r, R: ReplacesFiles, E: Write> StatusFile<'r, R, E> {
     // Writes the counts at a moment, if it is known, or prints why it cannot.
     fn write(&mut self, moment: Option<u64>)
         ensures file { IsBegun moment self.old.file self.new.file }
+        ensures put { self.new.file.is_failing ≡ false → (state : State)
+            × PutsFigures (R.was_put self.old.file.name) (figures_of self.old state) }
         ensures other { self.new ≡ record self.old {
           file = self.new.file;
           errors = self.new.errors;
@@ -298,9 +271,14 @@ fn write_file<R: ReplacesFiles>(
     alloc: Global,
     file: &FreshFile,
     figures: &Figures,
-) -> Result<(), Trouble> {
+) -> Result<(), Trouble>
+    ensures { OnOk result (PutsFigures (R.was_put file.now.name) figures.now) }
+{
     let mut writer = BufWriter::new(alloc, file.begin(runtime)?)?;
     write_figures(&mut writer, figures)?;
-    file.finish(runtime)?;
+    let Ok(written) = writer.into_inner() else {
+        return Err(Trouble::CannotWrite);
+    };
+    file.finish(runtime, written)?;
     Ok(())
 }

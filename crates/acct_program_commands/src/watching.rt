@@ -9,12 +9,15 @@
 //!    read if nothing is logged or written.
 //! 4. A line that cannot be written is lost, and changes nothing else.
 ghost use Rattle.std.specs.Prelude.{◌≡◌, ◌++◌, ◌∷◌, [], ℕ, Option, OnOk, replicate, None, false};
-ghost use Rattle.std.specs.Prelude.{◌<◌, ◌^◌, IfOk, IfSome};
+ghost use Rattle.std.specs.Prelude.{◌<◌, ◌^◌, ◌+◌, ◌-◌, is_ok};
 ghost use Rattle.std.specs.Io.KnownBytes.{Appends};
+ghost use Rattle.acct_service.specs.Told.{CountsFault, Grows, given, sent, drop_told};
 ghost use Rattle.acct_program_commands.specs.Told.{WritesDrop, minute_text};
 ghost use Rattle.acct_program_commands.specs.Tally.{no_tally, with_mute, with_came, with_reply, with_drop};
 ghost use Rattle.acct_program_commands.specs.Tally.{is_event};
-ghost use Rattle.acct_program_commands.specs.inner.Minutes.{Begins, IsOver};
+ghost use Rattle.acct_program_commands.specs.Counted.{CountsAs, with_turn, with_answer, with_refusal};
+ghost use Rattle.acct_program_commands.specs.Minutes.{Begins, CountsMinute, IsMomentOf, IsOver};
+ghost use Rattle.acct_program_commands.specs.Minutes.{WatchesTurn, WatchesReply, WatchesDrop};
 ghost use Rattle.acct_program_commands.specs.inner.ToldDrops.{TellsOf};
 
 use crate::drop_log::DropLog;
@@ -70,15 +73,9 @@ impl<W: Write> Watch<W> {
 
     // Counts a turn at a moment. First prints the counts before it, if their minute is over.
     fn note_turn(&mut self, came: &Result<Option<Event>, Fault>, moment: u64)
-        ensures log { self.new.log ≡ self.old.log }
-        ensures waits { self.new.meter.is_unanswered ≡ is_event came.now }
-        ensures over { let counted = with_mute self.old.meter.is_unanswered self.old.meter.tally
-            in IsOver counted self.old.began_at moment
-            → self.new.meter.tally ≡ with_came came.now no_tally }
-        ensures goes_on { let counted = with_mute self.old.meter.is_unanswered self.old.meter.tally
-            in ¬ IsOver counted self.old.began_at moment
-            → (self.new.meter.tally ≡ with_came came.now counted)
-            × (self.new.writer ≡ self.old.writer) }
+        ensures counts { CountsMinute came.now moment self.old self.new }
+        ensures silent { ¬ IsOver (with_mute self.old.meter.is_unanswered self.old.meter.tally)
+            self.old.began_at moment → self.new.writer ≡ self.old.writer }
         ensures begins { let counted = with_mute self.old.meter.is_unanswered self.old.meter.tally
             in Begins counted self.old.began_at moment → self.new.began_at ≡ moment }
         ensures began { let counted = with_mute self.old.meter.is_unanswered self.old.meter.tally
@@ -193,7 +190,7 @@ fn write_minute<W: Write>(writer: &mut W, minute: &Minute) -> io::Result<()>
 // The moment of a turn: that of its event, or the clock's if there is none.
 fn moment_of_turn<R: Clock>(clock: &R, came: &Result<Option<Event>, Fault>) -> u64
     ensures within { result < 2 ^ 53 }
-    ensures event { IfOk came.now (λ event. IfSome event (λ it. result ≡ it.moment)) }
+    ensures event { IsMomentOf came.now result }
 {
     match came {
         Ok(Some(event)) => event.moment,
@@ -282,7 +279,17 @@ impl<'r, R: Clock + ReplacesFiles, X: Exchange, W: Write, E: Write + Drop> Excha
 
     ghost told = { λ w. X.told w.exchange };
 
-    fn next(&mut self) -> Result<Option<Event>, Fault> {
+    fn next(&mut self) -> Result<Option<Event>, Fault>
+        requires turns { X.turn_count self.old.exchange < 2 ^ 64 - 1 }
+        requires failures { X.failure_count self.old.exchange < 2 ^ 64 - 1 }
+        ensures turns { X.turn_count self.new.exchange ≡ X.turn_count self.old.exchange + 1 }
+        ensures failures { CountsFault result (X.failure_count self.old.exchange)
+            (X.failure_count self.new.exchange) }
+        ensures told { Grows (X.told self.old.exchange) (given result) (X.told self.new.exchange) }
+        ensures counts { CountsAs (with_turn result) self.old.status self.new.status }
+        ensures watches { (moment : ℕ) × IsMomentOf result moment
+            × WatchesTurn result moment self.old.watch self.new.watch }
+    {
         let came = self.exchange.next();
         if self.watch.is_none() && self.status.is_none() {
             return came;
@@ -297,7 +304,17 @@ impl<'r, R: Clock + ReplacesFiles, X: Exchange, W: Write, E: Write + Drop> Excha
         came
     }
 
-    fn reply(&mut self, event: &Event, bytes: &[u8]) -> Result<(), Fault> {
+    fn reply(&mut self, event: &Event, bytes: &[u8]) -> Result<(), Fault>
+        requires failures { X.failure_count self.old.exchange < 2 ^ 64 - 1 }
+        ensures turns { X.turn_count self.new.exchange ≡ X.turn_count self.old.exchange }
+        ensures failures { CountsFault result (X.failure_count self.old.exchange)
+            (X.failure_count self.new.exchange) }
+        ensures told { Grows (X.told self.old.exchange) (sent event.now bytes.now result)
+            (X.told self.new.exchange) }
+        ensures counts { CountsAs (with_answer event.now.what (is_ok result)) self.old.status
+            self.new.status }
+        ensures watches { WatchesReply (is_ok result) self.old.watch self.new.watch }
+    {
         let sent = self.exchange.reply(event, bytes);
         if let Some(watch) = &mut self.watch {
             watch.note_reply(sent.is_ok());
@@ -308,7 +325,14 @@ impl<'r, R: Clock + ReplacesFiles, X: Exchange, W: Write, E: Write + Drop> Excha
         sent
     }
 
-    fn note_drop(&mut self, event: &Event, reason: Reason) {
+    fn note_drop(&mut self, event: &Event, reason: Reason)
+        ensures turns { X.turn_count self.new.exchange ≡ X.turn_count self.old.exchange }
+        ensures failures { X.failure_count self.new.exchange ≡ X.failure_count self.old.exchange }
+        ensures told { Grows (X.told self.old.exchange) (drop_told event.now reason)
+            (X.told self.new.exchange) }
+        ensures counts { CountsAs (with_refusal reason) self.old.status self.new.status }
+        ensures watches { WatchesDrop self.old.watch self.new.watch }
+    {
         self.exchange.note_drop(event, reason);
         if let Some(watch) = &mut self.watch {
             let _ = watch.note_drop(event, reason);

@@ -16,7 +16,7 @@ use std::test::Fail;
 struct Unchanged;
 
 impl SiteSource for Unchanged {
-    ghost sights = { λ _. None };
+    ghost polls = { λ _. None };
 
     ghost moments = { λ _. None };
 

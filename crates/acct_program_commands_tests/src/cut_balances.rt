@@ -1,4 +1,6 @@
 //! The files that a server writes, if there is room for a part of one: the old file stays.
+ghost use Rattle.std.specs.Prelude.{⊤};
+
 use acct_book::{Book, MemBook};
 use acct_model::{Text, TopUp};
 use acct_program_args::BalancesFile;
@@ -97,16 +99,16 @@ impl ReadsFiles for Disk {
 impl ReplacesFiles for Disk {
     type Writer = NewFile;
 
+    ghost was_put = { λ _ _. ⊤ };
+
     fn open_empty(&self, _name: &str, _mode: u32) -> io::Result<NewFile> {
         Ok(NewFile { room: self.room })
     }
 
-    fn put_in_place(&self, _new_name: &str, _name: &str) -> io::Result<()> {
+    fn put_in_place(&self, _file: NewFile, _new_name: &str, _name: &str) -> io::Result<()> {
         self.replaced.set(self.replaced.get().saturating_add(1));
         Ok(())
     }
-
-    fn make_private(&self, _name: &str) {}
 }
 
 const BALANCES: &str = "account,balance,overrun\nal,500,0\nbo,300,0\n";

@@ -35,7 +35,7 @@ impl<'c> Drop for Said<'c> {
 }
 
 impl<'c> SiteSource for Said<'c> {
-    ghost sights = { λ _. None };
+    ghost polls = { λ _. None };
 
     ghost moments = { λ _. None };
 

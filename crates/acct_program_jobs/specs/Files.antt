@@ -1,5 +1,5 @@
 -- What the files of a book held as they were opened, and what they hold afterwards.
-use Rattle.std.specs.Prelude.{◌≡◌, ◌≢◌, ◌⊎◌, ℕ, List, IsTrue, length}
+use Rattle.std.specs.Prelude.{◌≡◌, ◌≢◌, ◌⊎◌, ℕ, List, IsTrue, None, length}
 use Rattle.sqlite_disk.specs.declared.Disk.{Ghosts}
 use Rattle.sqlite_disk.specs.declared.Files.{Files}
 use Rattle.sqlite_wal.specs.Recovery.{Image}
@@ -43,6 +43,14 @@ pub record WasHeldIn (image : Image) (held : Database) : Type 0 where
   pub trees : AreHeldIn image held.trees
 
 module _ {D : Type 0} {g : Ghosts D} where
+  -- ---- a connection
+
+  -- No query of it is limited. While the disk returns what was written, each later read is tested
+  -- against a digest of it.
+  pub record IsGuarded (c : Held (FileStore D g)) : Type 0 where
+    pub shielded : HasCleanDisk (file_state c) → (file_state c).IsShielded
+    pub unlimited : (file_state c).step_limit ≡ None
+
   -- ---- a book
 
   -- the book that the files held: it keeps these plans, and has the number of our schema
@@ -52,6 +60,7 @@ module _ {D : Type 0} {g : Ghosts D} where
       pub held : AreHeldIn image (file_state book).now.trees
       pub number : HasNumberAlone own_number (file_state book).now.trees
       pub plans_kept : KeepsPlans plans (file_state book).now.trees
+      pub guarded : IsGuarded book
 
   -- an empty book of these plans; the files held no table, index or view
   pub record IsMadeIn (image : Image) (plans : List Plan) (book : Held (FileStore D g)) : Type 0

@@ -3,6 +3,7 @@
 use Rattle.std.specs.Prelude.{◌≡◌, ◌⊎◌, ⊤, ◌<◌, ◌^◌, ℕ, List, [], ◌∷◌, ◌++◌, Option, Some, None}
 use Rattle.std.specs.Prelude.{Result, Ok, Err, IfErr, IfSome, OnOk, Bool, true, codes, decimal}
 use Rattle.std.specs.Io.KnownBytes.{Appends}
+use Rattle.std.specs.declared.cell.Cell.{Cell}
 use Rattle.sqlite_disk.specs.declared.Disk as disk
 use Rattle.sqlite_disk.specs.declared.Files.{Files}
 use Rattle.sqlite_wal.specs.Recovery.{Image}
@@ -270,14 +271,15 @@ module _ {D : Type 0} {g : disk.Ghosts D} where
     -- `text` is what standard input has, `before` and `after` what standard output had and has.
     -- `IsBound` says how an exchange is bound that listens where a server is to.
     module _ {X M : Type 0} (b : book.Ghosts (Held (FileStore D g))) (x : exchange.Ghosts X)
-        (IsBound : Listening → X → Type 0) (m : book.Ghosts M)
+        (IsBound : Listening → Cell Bool → X → Type 0) (m : book.Ghosts M)
         (text before after : Option (List ℕ)) where
       -- turns of a server over the book of this name, and an import at a moment, with a
-      -- configuration
+      -- configuration; no contract of std says what a file of the system has
       abbrev pub HasServed : List ℕ → Serving → Config → Result Status Fault
           → Held (FileStore D g) → Held (FileStore D g) → Type 0
       HasServed name serving config =
-          RunsServer b x (IsBound serving.listening) None None name serving config before after
+          RunsServer b x (λ file octets. ⊤) (IsBound serving.listening) None None name serving config
+          before after
 
       abbrev pub HasImported : ℕ → Config → Result Status Fault → Held (FileStore D g)
           → Held (FileStore D g) → Type 0

@@ -3,7 +3,7 @@
 //! `export` only reads the book, and leaves its files as they are. The other jobs that keep a book
 //! close it at their end.
 ghost use Rattle.std.specs.Prelude.{◌≢◌, ◌≡◌, ◌⊎◌, ℕ, Ok, Err, IfOk, IfErr};
-ghost use Rattle.std.specs.Prelude.{true, false, None, Some, IsSome, List, Option};
+ghost use Rattle.std.specs.Prelude.{true, false, None, Some, IsSomeAnd, List, Option};
 ghost use Rattle.sqlite_wal.specs.Files.{image_at};
 ghost use Rattle.acct_site.specs.declared.config.Config.{Config};
 ghost use Rattle.acct_program_args.specs.Orders.{HasBounds, IsBounded};
@@ -32,10 +32,12 @@ use acct_model::{Plans, Text};
 use acct_net::Sockets;
 use acct_program::Status;
 use acct_program_args::{BookJob, Export, Job, Order, Serving, Telling};
-use acct_program_commands::{Fault, ServerFiles, end, keep_others, read_config, run_export};
+use acct_program_commands::{
+    Fault, ServerFiles, end, keep_others, read_clock, read_config, run_export,
+};
 use acct_program_serving::Errors;
 use acct_reads::ReadsFiles;
-use acct_service::Exchange;
+use acct_service::{Exchange, moment_of};
 use acct_site::{Config, sample_config};
 use acct_sql::SqlBook;
 use sqlite::{Alter, Connection, FileFrom, FileStore, Files, MemStore, Start};
@@ -99,8 +101,8 @@ pub fn carry_out<S: Start, I: Read + Drop, W: Write + Drop, E: Write + Drop, F: 
     ensures status { result.0 ≡ ended_status result.1.ended }
     ensures does { DoesJob (image_at S.Start) ⟦<SqlBook<FileStore<FileFrom<S>>> as Book>⟧
         ⟦<Sockets<'static, HostRuntime> as Exchange>⟧
-        (λ listening s. IsBoundTo listening s.event_loop.datagrams.sockets.items
-        s.event_loop.desk.door.address s.event_loop.desk.door.port × IsSome s.silenced)
+        (λ listening away s. IsBoundTo listening s.event_loop.datagrams.sockets.items
+        s.event_loop.desk.door.address s.event_loop.desk.door.port × IsSomeAnd s.silenced (λ flag. flag.now ≡ away))
         ⟦<SqlBook<MemStore> as Book>⟧
         (I.remaining streams.input) (W.contents streams.output)
         (text_of W.contents result.1.output) order.now.job result.1.ended result.1.left }
@@ -134,14 +136,15 @@ pub fn carry_out<S: Start, I: Read + Drop, W: Write + Drop, E: Write + Drop, F: 
                     serve_files(runtime, files, serving, output, errors, start)
                 }
                 BookJob::Import => {
-                    let import = Import::now(runtime, input);
+                    let import = Import::at(moment_of(runtime), input);
                     work_on(runtime, files, import, output, start)
                 }
                 BookJob::Export(what) => export(runtime, files, *what, output, start),
                 BookJob::Migrate => make(runtime, Making::Migrated, files, output, start),
                 BookJob::AddPlans => make(runtime, Making::Extended, files, output, start),
                 BookJob::Forward(carrying) => {
-                    let forward = Forward::now(runtime, files.database, carrying, errors);
+                    let clock = read_clock(runtime, files.database);
+                    let forward = Forward::by(clock, carrying, errors);
                     work_on(runtime, files, forward, output, start)
                 }
             }
@@ -166,8 +169,8 @@ pub fn serve_files<S: Start, W: Write + Drop, E: Write + Drop>(
     ensures does { (text : Option (List ℕ)) → DoesBookJob (image_at S.Start)
         ⟦<SqlBook<FileStore<FileFrom<S>>> as Book>⟧
         ⟦<Sockets<'static, HostRuntime> as Exchange>⟧
-        (λ listening s. IsBoundTo listening s.event_loop.datagrams.sockets.items
-        s.event_loop.desk.door.address s.event_loop.desk.door.port × IsSome s.silenced)
+        (λ listening away s. IsBoundTo listening s.event_loop.datagrams.sockets.items
+        s.event_loop.desk.door.address s.event_loop.desk.door.port × IsSomeAnd s.silenced (λ flag. flag.now ≡ away))
         ⟦<SqlBook<MemStore> as Book>⟧
         text (W.contents output) (text_of W.contents result.output)
         files.entry.database.now (BookJob.Serve serving.now) result.ended result.left }

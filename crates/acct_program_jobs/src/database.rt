@@ -10,19 +10,16 @@ ghost use Rattle.sqlite.specs.Files.{file_state, IsBlankAs};
 ghost use Rattle.sqlite_store.specs.FileStore.{view};
 ghost use Rattle.acct_program_jobs.specs.Faults.{store_fault_of};
 ghost use Rattle.acct_program_jobs.specs.Files.{IsBookOf, IsMade, IsRefused, HasNotMade, IsUnread};
-ghost use Rattle.acct_program_jobs.specs.Files.{Copies, IsUnclosed};
+ghost use Rattle.acct_program_jobs.specs.Files.{Copies, IsGuarded, IsUnclosed};
 ghost use Rattle.acct_program_jobs.specs.inner.Files.{IsOpenedOn};
 
 use crate::book_file::BookFile;
 use crate::left::Left;
+use crate::looked::Looked;
 use crate::making::Making;
 use acct_model::{Plans, Text};
-use acct_program_commands::{Fault, ReplacesFiles, StoreFault};
-use acct_reads::ReadsFiles;
+use acct_program_commands::{Fault, MakesFiles, StoreFault};
 use acct_sql::{SqlBook, SqlBookError};
-use acct_sql_log::{
-    DATABASE_HEADER_OCTETS, LOG_HEADER_OCTETS, damage_beside, has_lost_book, log_name,
-};
 use sqlite::{Connection, FileFrom, FileStore, Files, Options, Start};
 use sqlite_disk::Disk;
 use std::alloc::Global;
@@ -60,18 +57,13 @@ pub fn made<S: Start>(
         HasNotMade making (image_at S.Start) plans.now e.0 e.1) }
 {
     let (sums, file) = (making.sums(), files.database);
-    // The open of a file without a database would empty a log that belongs to a book.
-    let may_open = match sums {
-        Some(_) => !has_lost_book(runtime, runtime.alloc(), file.as_str()),
-        None => may_be_database(runtime, file),
-    };
-    if !may_open || !is_readable(runtime, files) {
+    let Some(looked) = Looked::at(runtime, files, sums.is_some()) else {
         return Err((Fault::CannotOpen, Left::Nothing));
-    }
+    };
     if sums.is_some() {
         keep_private(runtime, file);
     }
-    let connection = opened_anew(runtime, files, sums == Some(true), start)?;
+    let connection = opened_anew(runtime, looked, sums == Some(true), start)?;
     made_of(runtime.alloc(), making, connection, plans)
 }
 
@@ -93,13 +85,10 @@ pub fn adopted<S: Start>(
         → IsBookOf (image_at S.Start) plans.now book) }
     ensures refused { IfErr result (λ e. IsRefused (image_at S.Start) plans.now e.0 e.1) }
 {
-    // An open makes a file that does not exist, and a database of a text shorter than a header, and
-    // it blocks on a pipe. A mistyped name must do none of this. An open also stops reading a
-    // damaged log at the damage, and writes behind it.
-    if !may_be_database(runtime, files.database) || !is_readable(runtime, files) {
+    let Some(looked) = Looked::at(runtime, files, false) else {
         return Err((Fault::CannotOpen, Left::Nothing));
-    }
-    let connection = opened_anew(runtime, files, false, start)?;
+    };
+    let connection = opened_anew(runtime, looked, false, start)?;
     taken(runtime.alloc(), connection, plans)
 }
 
@@ -123,42 +112,10 @@ pub fn close<S: Start>(
 
 // Makes the files of a new book so that no other user can read them: an open would leave that to
 // the umask. Existing files stay as they are. If one cannot be made, the open reports it.
-fn keep_private<R: ReplacesFiles + AllocGlobal>(runtime: &R, file: &Text) {
+fn keep_private<R: MakesFiles + AllocGlobal>(runtime: &R, file: &Text) {
     runtime.make_private(file.as_str());
     if let Ok(log) = format!(in runtime.alloc(); "{}-wal", file.as_str()) {
         runtime.make_private(&log);
-    }
-}
-
-// Whether a file may be a database: a regular one that is long enough for a header, or an empty one
-// without a log that would be read in its place.
-fn may_be_database<R: ReadsFiles + AllocGlobal>(runtime: &R, file: &Text) -> bool {
-    match runtime.metadata(file.as_str()) {
-        Ok(found) if found.is_file() && found.len() == 0 => !has_log(runtime, file),
-        Ok(found) => found.is_file() && found.len() >= DATABASE_HEADER_OCTETS,
-        Err(_) => false,
-    }
-}
-
-// Whether the log of a database may be read: it was read to its end and is not damaged, or what is
-// behind the damage may be lost.
-fn is_readable<R: ReadsFiles + AllocGlobal>(runtime: &R, files: BookFile<'_>) -> bool {
-    files.loses_commits
-        || matches!(
-            damage_beside(runtime, runtime.alloc(), files.database.as_str()),
-            Ok(None)
-        )
-}
-
-// Whether the log of a database has a frame. If there is no memory for its name, it counts as
-// having one.
-fn has_log<R: ReadsFiles + AllocGlobal>(runtime: &R, file: &Text) -> bool {
-    let Some(log) = log_name(runtime, runtime.alloc(), file.as_str()) else {
-        return true;
-    };
-    match runtime.metadata(log.as_str()) {
-        Ok(found) => found.len() > LOG_HEADER_OCTETS,
-        Err(_) => false,
     }
 }
 
@@ -169,7 +126,7 @@ fn taken<D: Disk + Drop>(
     plans: &Plans,
 ) -> Result<SqlBook<FileStore<D>>, (Fault, Left<D>)>
     requires { (file_state connection).in_transaction ≡ false }
-    ensures adopted { (image : Image) → IsOpenedOn image connection
+    ensures adopted { (image : Image) → IsOpenedOn image connection → IsGuarded connection
         → IfOk result (λ book. HasCleanDisk (file_state book) → IsBookOf image plans.now book) }
     ensures refused { (image : Image) → IsOpenedOn image connection
         → IfErr result (λ e. IsRefused image plans.now e.0 e.1) }
@@ -223,16 +180,18 @@ fn made_of<D: Disk + Drop>(
 // in sums if that is requested.
 fn opened<S: Start>(
     runtime: &HostRuntime,
-    file: &Text,
+    looked: Looked<'_>,
     has_sums: bool,
     start: S,
 ) -> Result<FileConnection<S>, (Fault, Left<FileFrom<S>>)>
     ensures found { IfOk result (IsOpenedOn (image_at S.Start)) }
+    ensures guarded { IfOk result IsGuarded }
     ensures idle { IfOk result (λ c. (file_state c).in_transaction ≡ false) }
     ensures sums { IfOk result (λ c. HasCleanDisk (file_state c)
         → IsBlankAs has_sums (image_at S.Start) → (view c.store).has_sums ≡ has_sums) }
     ensures unread { IfErr result (λ e. IsUnread (image_at S.Start) e.0 e.1) }
 {
+    let file = looked.files().database;
     match Connection::open_from(runtime, file.as_str(), has_sums, start) {
         Ok(connection) => Ok(connection),
         Err((_, Some(rest))) => Err((Fault::CannotOpen, Left::Unopened(rest))),
@@ -245,16 +204,17 @@ fn opened<S: Start>(
 // lies behind the damage would be taken for damage again.
 fn opened_anew<S: Start>(
     runtime: &HostRuntime,
-    files: BookFile<'_>,
+    looked: Looked<'_>,
     has_sums: bool,
     start: S,
 ) -> Result<FileConnection<S>, (Fault, Left<FileFrom<S>>)>
     ensures found { IfOk result (IsOpenedOn (image_at S.Start)) }
+    ensures guarded { IfOk result IsGuarded }
     ensures idle { IfOk result (λ c. (file_state c).in_transaction ≡ false) }
     ensures unread { IfErr result (λ e. IsUnread (image_at S.Start) e.0 e.1) }
 {
-    let connection = opened(runtime, files.database, has_sums, start)?;
-    if files.loses_commits {
+    let connection = opened(runtime, looked, has_sums, start)?;
+    if looked.files().loses_commits {
         emptied(runtime, connection)
     } else {
         Ok(connection)
@@ -267,6 +227,7 @@ fn emptied<S: Start>(
     connection: FileConnection<S>,
 ) -> Result<FileConnection<S>, (Fault, Left<FileFrom<S>>)>
     ensures found { (image : Image) → IsOpenedOn image connection → IfOk result (IsOpenedOn image) }
+    ensures guarded { IfOk result IsGuarded }
     ensures idle { IfOk result (λ c. (file_state c).in_transaction ≡ false) }
     ensures unread { (image : Image) → IfErr result (λ e. IsUnread image e.0 e.1) }
 {

@@ -1,6 +1,7 @@
 //! The file of the configuration, and what `--explain` adds if a server refuses it while it runs.
 ghost use Rattle.std.specs.Prelude.{◌≡◌, ◌∷◌, ◌<◌, ◌^◌, [], None, IsSome};
 ghost use Rattle.acct_service.specs.Told.{Grows};
+ghost use Rattle.acct_program_commands.specs.Sights.{Poll};
 ghost use Rattle.acct_program_commands.specs.Looks.{LooksOnce};
 
 use acct_model::{Octets, Text};
@@ -37,7 +38,7 @@ impl<'a, R: ReadsFiles> ExplainedSite<'a, R> {
 }
 
 impl<'a, R: ReadsFiles + Clock> SiteSource for ExplainedSite<'a, R> {
-    ghost sights = { λ _. None };
+    ghost polls = { λ _. None };
 
     ghost moments = { λ _. None };
 
@@ -49,7 +50,7 @@ impl<'a, R: ReadsFiles + Clock> SiteSource for ExplainedSite<'a, R> {
     }
 
     fn look(&mut self, alloc: Global, moment: u64) -> Option<Result<Octets, InputFault>>
-        ensures told { Grows None (result ∷ []) None }
+        ensures told { Grows {C = Poll} None (record { moment = moment; sight = result } ∷ []) None }
         ensures kept { self.new ≡ record self.old { file = self.new.file } }
         ensures looked { LooksOnce moment self.old.file self.new.file (IsSome result) }
     {

@@ -15,6 +15,7 @@ mod database;
 mod explained_site;
 mod feed_job;
 mod left;
+mod looked;
 mod making;
 mod serving;
 mod work;

@@ -1,6 +1,6 @@
 //! The commands that work on the book of a file, and close it at their end.
 ghost use Rattle.std.specs.Prelude.{◌≢◌, ◌≡◌, ◌<◌, ◌≤◌, ◌^◌, ℕ, List, Option, Result};
-ghost use Rattle.std.specs.Prelude.{Ok, None, IfOk, IfErr, IfSome, IsSome};
+ghost use Rattle.std.specs.Prelude.{Ok, None, IfOk, IfErr, IfSome, IsSomeAnd};
 ghost use Rattle.sqlite_wal.specs.Files.{image_at};
 ghost use Rattle.acct_book.specs.declared.book.Book as book;
 ghost use Rattle.acct_site.specs.declared.config.Config.{Config};
@@ -24,10 +24,10 @@ use acct_model::Text;
 use acct_net::Sockets;
 use acct_program::Status;
 use acct_program_args::{Carrying, Serving};
-use acct_program_commands::{ClockReading, Fault, read_clock, run_forward, run_import};
+use acct_program_commands::{ClockReading, Fault, ReplacesFiles, run_forward, run_import};
 use acct_program_serving::{Errors, Surroundings, run_serve};
 use acct_reads::ReadsFiles;
-use acct_service::{Exchange, moment_of};
+use acct_service::Exchange;
 use acct_site::Config;
 use acct_sql::SqlBook;
 use sqlite::{FileFrom, FileStore, Start};
@@ -66,15 +66,11 @@ pub(crate) struct Import<I: Drop> {
 }
 
 impl<I: Read + Drop> Import<I> {
-    /// The lines of an input, at the clock's moment.
-    pub(crate) fn now<R: Clock>(runtime: &R, input: I) -> Import<I>
-        ensures moment { result.moment < 2 ^ 53 }
-        ensures input { result.input ≡ input }
+    /// The lines of an input, at a moment.
+    pub(crate) fn at(moment: u64, input: I) -> Import<I>
+        ensures { result ≡ record { moment = moment; input = input } }
     {
-        Import {
-            moment: moment_of(runtime),
-            input,
-        }
+        Import { moment, input }
     }
 }
 
@@ -105,21 +101,22 @@ pub(crate) struct Forward<'a, E: Drop> {
 }
 
 impl<'a, E: Drop> Forward<'a, E> {
-    /// What was asked, by what the clock says now of the book in a file. Its progress is printed
-    /// among the notices.
-    pub(crate) fn now<R: ReadsFiles + Clock + AllocGlobal>(
-        runtime: &R,
-        file: &Text,
+    /// What was asked, by what a clock says of the book in a file. Its progress is printed among
+    /// the notices.
+    pub(crate) fn by(
+        clock: ClockReading,
         carrying: &'a Carrying,
         errors: Errors<E>,
     ) -> Forward<'a, E>
-        ensures moment { result.clock.moment < 2 ^ 53 }
-        ensures carrying { result.carrying ≡ carrying.entry }
-        ensures progress { result.progress ≡ errors.notices }
+        ensures { result ≡ record {
+          carrying = carrying.entry;
+          clock = clock;
+          progress = errors.notices;
+        } }
     {
         Forward {
             carrying,
-            clock: read_clock(runtime, file),
+            clock,
             progress: errors.notices,
         }
     }
@@ -171,8 +168,9 @@ impl<R: ReadsFiles + Clock, W: Write, E: Write + Drop> Work<W> for Server<'_, R,
     // show.
     ghost did = { λ b it config ended first last before after. RunsServer b
         ⟦<Sockets<'static, HostRuntime> as Exchange>⟧
-        (λ s. IsBoundTo it.serving.now.listening s.event_loop.datagrams.sockets.items
-        s.event_loop.desk.door.address s.event_loop.desk.door.port × IsSome s.silenced)
+        ⟦<HostRuntime as ReplacesFiles>⟧.was_put
+        (λ away s. IsBoundTo it.serving.now.listening s.event_loop.datagrams.sockets.items
+        s.event_loop.desk.door.address s.event_loop.desk.door.port × IsSomeAnd s.silenced (λ flag. flag.now ≡ away))
         None None it.file.now it.serving.now config before after ended first last };
 
     fn over<B: Book>(

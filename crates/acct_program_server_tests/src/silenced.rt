@@ -55,7 +55,7 @@ impl Sender<'_> {
 }
 
 impl SiteSource for Sender<'_> {
-    ghost sights = { λ _. None };
+    ghost polls = { λ _. None };
 
     ghost moments = { λ _. None };
 

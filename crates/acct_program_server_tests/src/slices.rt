@@ -1,6 +1,6 @@
 //! Slices of thousands of turns: each has the configuration of the round before it, and a server
 //! whose book is stuck ends after the next one, however many events came and whoever else asks.
-ghost use Rattle.std.specs.Prelude.{◌≡◌, ◌==◌, None};
+ghost use Rattle.std.specs.Prelude.{◌≡◌, ◌==◌, ⊤, None};
 
 use crate::rounds::{ASKED, NEW, OLD, START, site_of};
 use crate::stuck_book::StuckBook;
@@ -30,7 +30,7 @@ impl Drop for Alternating<'_> {
 }
 
 impl SiteSource for Alternating<'_> {
-    ghost sights = { λ _. None };
+    ghost polls = { λ _. None };
 
     ghost moments = { λ _. None };
 
@@ -198,6 +198,8 @@ struct Ending {
 
 impl Rounds for Ending {
     ghost goes = { λ _ _ gave _. gave ≡ None };
+
+    ghost shows = { λ _ _ _ _ _. ⊤ };
 
     ghost is_over = { λ rounds. rounds.left == 0 };
 

@@ -81,7 +81,7 @@ impl Drop for Stage<'_> {
 }
 
 impl SiteSource for Stage<'_> {
-    ghost sights = { λ _. None };
+    ghost polls = { λ _. None };
 
     ghost moments = { λ _. None };
 

@@ -1,7 +1,9 @@
 -- A run over an exchange is one over any other that counts and records the same.
-use Rattle.std.specs.Prelude.{◌≡◌, ◌-◌, ℕ, List, [], ◌∷◌, Option, Some, None}
+use Rattle.std.specs.declared.cell.Cell.{Cell}
+use Rattle.std.specs.Prelude.{◌≡◌, ◌-◌, ⊤, ℕ, Bool, List, [], ◌∷◌, Option, Some, None}
 use Rattle.std.proofs.Common.{◌∙◌, subst, sym, ap}
 use Rattle.acct_book.specs.declared.book.Book as book
+use Rattle.acct_book.specs.Content.{Content}
 use Rattle.acct_book.specs.Step.{OnlyLooks}
 use Rattle.acct_site.specs.declared.config.Config.{Config}
 use Rattle.acct_service.specs.declared.exchange.Exchange as exchange
@@ -10,13 +12,14 @@ use Rattle.acct_service.specs.Slices.{Slice, GoRounds, ServesInSlices}
 use Rattle.acct_service.specs.declared.exchange.Call.{Call}
 use Rattle.acct_service.specs.declared.server.Served.{Served}
 use Rattle.acct_service.specs.declared.slices.Until.{Until}
-use Rattle.acct_program_commands.specs.Sights.{Sight}
+use Rattle.acct_program_commands.specs.Sights.{Poll}
 use Rattle.acct_program_args.specs.declared.job.BalancesFile.{BalancesFile}
 use Rattle.acct_program_args.specs.declared.job.Serving.{Serving}
 use Rattle.acct_program_args.specs.Orders.{seconds_of}
 use Rattle.acct_program_commands.specs.Fresh.{IsDue}
+use Rattle.acct_program_commands.specs.Placed.{IsPut, PutsBalances}
 use Rattle.acct_program_commands.specs.Rounds.{GoesRound, KeepsAt, RoundState, file_of}
-use Rattle.acct_program_commands.specs.Unwritten.{IsBegun}
+use Rattle.acct_program_commands.specs.Unwritten.{Rewrites}
 use Rattle.acct_program_commands.specs.declared.balances_file.KeptBalances.{KeptBalances}
 use Rattle.acct_program_serving.specs.Files.{Begins, IsKept, HasKept}
 use Rattle.acct_program_serving.specs.declared.ended.Ended.{Ended}
@@ -72,16 +75,23 @@ module _ {B X Y : Type 0} (b : book.Ghosts B) (x : exchange.Ghosts X) (y : excha
   )
 
 -- rounds whose state goes on so go on so
-pub rounds_after : {R : Type 0} (r : rounds.Ghosts R) (known : R → RoundState)
+pub rounds_after : {R : Type 0} (r : rounds.Ghosts R) (Put : List ℕ → Option (List ℕ) → Type 0)
+    (is_open : Type 0) (known : R → RoundState)
     (each : (old : R) (config : Config) (gave : Option Config) (new : R)
-    → r.goes old config gave new → GoesRound config.plans (known old) gave (known new))
-    (first : R) (slices : List Slice) (last : R) → GoRounds r first slices last
-    → RoundsAfter (known first) slices (known last)
-rounds_after r known each first [] last same = ap known same
-rounds_after r known each first (slice ∷ later) last (next, goes, on, rest) = (
+    → r.goes old config gave new
+    → GoesRound (λ name. IsPut (Put name)) config.plans (known old) gave (known new))
+    (shown : (old : R) (config : Config) (content : Content) (gave : Option Config) (new : R)
+    → r.shows old config content gave new
+    → GoesRound (λ name. PutsBalances (Put name) config.plans content ⊤) config.plans (known old)
+    gave (known new))
+    (first : R) (slices : List Slice) (last : R) → GoRounds r is_open first slices last
+    → RoundsAfter Put is_open (known first) slices (known last)
+rounds_after r Put is_open known each shown first [] last same = ap known same
+rounds_after r Put is_open known each shown first (slice ∷ later) last (next, goes, shows, on, rest) = (
   known next,
   each first slice.site slice.given next goes,
-  rounds_after r known each next later last rest,
+  λ opened. shown first slice.site slice.content slice.given next (shows opened),
+  rounds_after r Put is_open known each shown next later last rest,
 )
 
 -- a run of slices, whose rounds went another way, too
@@ -99,24 +109,26 @@ however b oldest config old new told later Went Goes so limit made served why ru
   same_plans = run.same_plans;
   went = so run.slices run.went;
   attends = run.attends;
+  one_by_one = run.one_by_one;
   counts = run.counts;
 }
 
-module _ {B X : Type 0} (b : book.Ghosts B) (x : exchange.Ghosts X) (IsBound : X → Type 0)
-    (sights : Option (List Sight)) (moments : Option (List ℕ)) (path : List ℕ) (serving : Serving)
-    (known then : RoundState)
-    (begins : Begins serving.telling.balances sights moments
-    (Some (record { path = path; looked_at = None })) known)
-    (config : Config) (Went : List Slice → Type 0)
-    (so : (slices : List Slice) → Went slices → RoundsAfter known slices then)
-    (before_all old new : B) (looked : OnlyLooks b before_all old) (first last : X)
-    (bound : IsBound first) (fresh : x.turn_count first ≡ 0)
+module _ {B X : Type 0} (b : book.Ghosts B) (x : exchange.Ghosts X)
+    (Put : List ℕ → Option (List ℕ) → Type 0) (IsBound : Cell Bool → X → Type 0)
+    (polls : Option (List Poll)) (moments : Option (List ℕ)) (path : List ℕ) (serving : Serving)
+    (known then : RoundState) (config : Config) (before_all old new : B)
+    (begins : Begins (λ name. PutsBalances (Put name) config.plans (b.content before_all)
+    (b.is_open old)) serving.telling.balances polls moments path known)
+    (Went : List Slice → Type 0)
+    (so : (slices : List Slice) → Went slices → RoundsAfter Put (b.is_open new) known slices then)
+    (looked : OnlyLooks b before_all old) (first last : X)
+    (bound : IsBound known.away first) (fresh : x.turn_count first ≡ 0)
     (faultless : x.failure_count first ≡ 0) where
   ran_however : (served : Served) (why : Until)
       → Ran b x (seconds_of serving.oldest_report) config serving.turns Went old new first last
       served why
       → Ran b x (seconds_of serving.oldest_report) config serving.turns
-      (λ slices. RoundsAfter known slices then) old new first last served why
+      (λ slices. RoundsAfter Put (b.is_open new) known slices then) old new first last served why
   ran_however served why ran = record {
     turns_made = ran.turns_made;
     shut = ran.shut;
@@ -124,7 +136,7 @@ module _ {B X : Type 0} (b : book.Ghosts B) (x : exchange.Ghosts X) (IsBound : X
     open_is = ran.open_is;
     faults = ran.faults;
     run = however b (seconds_of serving.oldest_report) config old new (x.told first) (x.told last)
-        Went (λ slices. RoundsAfter known slices then) so serving.turns
+        Went (λ slices. RoundsAfter Put (b.is_open new) known slices then) so serving.turns
         (x.turn_count last - x.turn_count first) served why ran.run;
   }
 
@@ -132,7 +144,7 @@ module _ {B X : Type 0} (b : book.Ghosts B) (x : exchange.Ghosts X) (IsBound : X
       → EndsOver b x (seconds_of serving.oldest_report) config serving.turns Went old new first last
       before after ended
       → EndsOver b x (seconds_of serving.oldest_report) config serving.turns
-      (λ slices. RoundsAfter known slices then) old new first last before after ended
+      (λ slices. RoundsAfter Put (b.is_open new) known slices then) old new first last before after ended
   ends_however before after (how.Told served why) (ran, printed) =
       (ran_however served why ran, printed)
   ends_however before after (how.Untold served why) ran = ran_however served why ran
@@ -142,7 +154,7 @@ module _ {B X : Type 0} (b : book.Ghosts B) (x : exchange.Ghosts X) (IsBound : X
   pub ends_afresh : (before after : Option (List ℕ)) (ended : Ended)
       → EndsOver b x (seconds_of serving.oldest_report) config serving.turns Went old new first last
       before after ended
-      → EndsAfresh b x IsBound sights moments path serving config before_all new last before after
+      → EndsAfresh b x Put IsBound polls moments path serving config before_all new last before after
       ended
   ends_afresh before after ended ends = record {
     begun = old;
@@ -158,14 +170,14 @@ module _ {B X : Type 0} (b : book.Ghosts B) (x : exchange.Ghosts X) (IsBound : X
   }
 
 -- a file of balances that was first due at a moment, and was written then
-pub kept_first : {R : Type 0} (named : Option BalancesFile) (old new : Option (KeptBalances R))
-    (moment : ℕ) → IsKept named old → KeepsAt moment (file_of old) (file_of new)
-    → HasKept named moment (file_of new)
-kept_first None None None moment same keeps = tt
-kept_first None None (Some new) moment same keeps = absurd (cc)
-kept_first None (Some old) new moment same keeps = elim same [ ]
-kept_first (Some file) None new moment same keeps = elim same [ ]
-kept_first (Some file) (Some old) None moment same keeps = elim keeps [ ]
-kept_first (Some file) (Some old) (Some new) moment same (due, idle) =
-    subst (λ was. IsBegun (Some moment) was new.file) same
+pub kept_first : {R : Type 0} (IsPut : List ℕ → Type 0) (named : Option BalancesFile)
+    (old new : Option (KeptBalances R)) (moment : ℕ) → IsKept named old
+    → KeepsAt IsPut moment (file_of old) (file_of new) → HasKept IsPut named moment (file_of new)
+kept_first IsPut None None None moment same keeps = tt
+kept_first IsPut None None (Some new) moment same keeps = absurd (cc)
+kept_first IsPut None (Some old) new moment same keeps = elim same [ ]
+kept_first IsPut (Some file) None new moment same keeps = elim same [ ]
+kept_first IsPut (Some file) (Some old) None moment same keeps = elim keeps [ ]
+kept_first IsPut (Some file) (Some old) (Some new) moment same (due, idle) =
+    subst (λ was. Rewrites IsPut moment was new.file) same
     (due (subst (λ was. IsDue was.pause was.begun_at moment) (sym same) tt))

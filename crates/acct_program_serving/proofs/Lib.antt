@@ -1,2 +1,4 @@
 -- an end over an exchange, as one over another that counts and records the same
 pub mod HandedOn
+-- the files of balances, by the history of the book
+mod Balances

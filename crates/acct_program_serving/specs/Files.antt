@@ -1,10 +1,11 @@
 -- The files that a server writes, and what its rounds begin with.
-use Rattle.std.specs.Prelude.{◌≡◌, ⊤, List, [], ◌∷◌, ℕ, Option, Some, None}
+use Rattle.std.specs.Prelude.{◌≡◌, ⊤, List, [], ◌∷◌, ℕ, Option, Some, None, false, IsSomeAnd}
 use Rattle.acct_program_args.specs.declared.job.BalancesFile.{BalancesFile}
-use Rattle.acct_program_commands.specs.Rounds.{RoundState, NameSeen}
-use Rattle.acct_program_commands.specs.Sights.{Sight}
+use Rattle.acct_program_commands.specs.Names.{NamesSeen}
+use Rattle.acct_program_commands.specs.Rounds.{RoundState}
+use Rattle.acct_program_commands.specs.Sights.{Poll}
 use Rattle.acct_program_commands.specs.Tally.{no_tally}
-use Rattle.acct_program_commands.specs.Unwritten.{unwritten, IsBegun}
+use Rattle.acct_program_commands.specs.Unwritten.{unwritten, Rewrites}
 use Rattle.acct_program_commands.specs.declared.balances_file.KeptBalances.{KeptBalances}
 use Rattle.acct_program_commands.specs.declared.fresh_file.FreshFile.{FreshFile}
 use Rattle.acct_program_commands.specs.declared.status_file.StatusFile.{StatusFile}
@@ -27,20 +28,27 @@ IsCounted (Some name) book None = ⊥
 IsCounted (Some name) book (Some counts) = (counts.file ≡ unwritten name 0o644 10)
     × (counts.meter.tally ≡ no_tally) × (counts.reports ≡ 0) × (counts.state.book ≡ book)
 
--- the file of all balances is the one that was named, and a write of it began at this moment
-abbrev pub HasKept : Option BalancesFile → ℕ → Option FreshFile → Type 0
-HasKept None moment None = ⊤
-HasKept None moment (Some kept) = ⊥
-HasKept (Some named) moment None = ⊥
-HasKept (Some named) moment (Some kept) =
-    IsBegun (Some moment) (unwritten named.file 0o640 named.seconds) kept
+-- the file of all balances is the one that was named, and was written at this moment
+abbrev pub HasKept : (List ℕ → Type 0) → Option BalancesFile → ℕ → Option FreshFile → Type 0
+HasKept IsPut None moment None = ⊤
+HasKept IsPut None moment (Some kept) = ⊥
+HasKept IsPut (Some named) moment None = ⊥
+HasKept IsPut (Some named) moment (Some kept) =
+    Rewrites IsPut moment (unwritten named.file 0o640 named.seconds) kept
+
+-- The book has this name. Its names were not looked at again since the server opened it, and none is
+-- known to lead elsewhere.
+abbrev pub IsNamed : List ℕ → NamesSeen → Type 0
+IsNamed book names =
+    (names.book.path ≡ book) × (names.looked_at ≡ None) × (names.is_away ≡ false)
 
 -- Before the first round the clock was read once. At that moment the file of balances that was named
 -- was written. The text was not polled, and the book has this name.
-pub record Begins (named : Option BalancesFile) (sights : Option (List Sight))
-    (moments : Option (List ℕ)) (name : Option NameSeen) (begun : RoundState) : Type 0 where
+pub record Begins (IsPut : List ℕ → Type 0) (named : Option BalancesFile)
+    (polls : Option (List Poll)) (moments : Option (List ℕ)) (book : List ℕ) (begun : RoundState)
+    : Type 0 where
   pub moment : ℕ
   pub reads : Grows moments (moment ∷ []) begun.moments
-  pub keeps : HasKept named moment begun.balances
-  pub unpolled : begun.sights ≡ sights
-  pub name_is : begun.name ≡ name
+  pub keeps : HasKept IsPut named moment begun.balances
+  pub unpolled : begun.polls ≡ polls
+  pub names : IsSomeAnd begun.names (IsNamed book)

@@ -1,3 +1,4 @@
+pub mod Balances
 pub mod Counts
 pub mod Files
 pub mod Runs

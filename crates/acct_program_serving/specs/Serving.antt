@@ -1,5 +1,6 @@
 -- What `serve` does, and how it ends.
-use Rattle.std.specs.Prelude.{◌≡◌, ◌⊎◌, ℕ, List, [], ◌∷◌, Option, None, Some, Result, Ok, Err}
+use Rattle.std.specs.declared.cell.Cell.{Cell}
+use Rattle.std.specs.Prelude.{◌≡◌, ◌⊎◌, ⊤, ℕ, Bool, List, [], ◌∷◌, Option, None, Some, Result, Ok, Err}
 use Rattle.std.specs.Io.KnownBytes.{Appends}
 use Rattle.std.specs.List.{AllZip}
 use Rattle.std.specs.Net.Grammar.{IsDotted}
@@ -14,8 +15,9 @@ use Rattle.acct_net.specs.declared.datagrams.RadiusSocket.{RadiusSocket}
 use Rattle.acct_program_args.specs.declared.job.Listening.{Listening}
 use Rattle.acct_program_args.specs.declared.job.Serving.{Serving}
 use Rattle.acct_program_args.specs.Orders.{seconds_of}
+use Rattle.acct_program_commands.specs.Placed.{IsPut, PutsBalances}
 use Rattle.acct_program_commands.specs.Rounds.{GoesRound, RoundState}
-use Rattle.acct_program_commands.specs.Sights.{Sight}
+use Rattle.acct_program_commands.specs.Sights.{Poll}
 use Rattle.acct_program_commands.specs.declared.fault.Fault.{Fault}
 use Rattle.acct_program_commands.specs.declared.fault.Fault.TheVariants as fault
 use Rattle.acct_program_commands.specs.declared.fault.StoreFault.TheVariants as store
@@ -53,12 +55,17 @@ pub record IsBoundTo (listening : Listening) (datagrams : List RadiusSocket) (de
   pub desk_port_is : desk_port ≡ listening.desk_port
 
 -- After each slice a round went, and nothing else did. The turns that follow have what was taken
--- from its poll: other clients and keys, or what was in force.
-abbrev pub RoundsAfter : RoundState → List Slice → RoundState → Type 0
-RoundsAfter known [] last = known ≡ last
-RoundsAfter known (slice ∷ later) last =
-    (next : RoundState) × GoesRound slice.site.plans known slice.given next
-    × RoundsAfter next later last
+-- from its poll: other clients and keys, or what was in force. If the book is open, each file of
+-- balances that was put in its place has those of the content after that slice.
+abbrev pub RoundsAfter : (List ℕ → Option (List ℕ) → Type 0) → Type 0 → RoundState → List Slice
+    → RoundState → Type 0
+RoundsAfter Put is_open known [] last = known ≡ last
+RoundsAfter Put is_open known (slice ∷ later) last =
+    (next : RoundState)
+    × GoesRound (λ name. IsPut (Put name)) slice.site.plans known slice.given next
+    × (is_open → GoesRound (λ name. PutsBalances (Put name) slice.site.plans slice.content ⊤)
+    slice.site.plans known slice.given next)
+    × RoundsAfter Put is_open next later last
 
 -- A run of a server over a book and an exchange.
 module _ {B X : Type 0} (b : book.Ghosts B) (x : exchange.Ghosts X) where
@@ -85,27 +92,31 @@ module _ {B X : Type 0} (b : book.Ghosts B) (x : exchange.Ghosts X) where
   -- Before it began, the book was only read, for the file of balances. Its rounds went on from what
   -- the text and its clock had shown, with the file of balances that was named and the name of this
   -- book: each configuration is the first one, or was taken from a poll.
-  pub record EndsAfresh (IsBound : X → Type 0) (sights : Option (List Sight))
-      (moments : Option (List ℕ)) (book : List ℕ) (serving : Serving) (config : Config)
-      (old new : B) (last : X) (before after : Option (List ℕ)) (ended : Ended) : Type 0 where
+  pub record EndsAfresh (Put : List ℕ → Option (List ℕ) → Type 0) (IsBound : Cell Bool → X → Type 0)
+      (polls : Option (List Poll)) (moments : Option (List ℕ)) (book : List ℕ) (serving : Serving)
+      (config : Config) (old new : B) (last : X) (before after : Option (List ℕ)) (ended : Ended)
+      : Type 0 where
     pub begun : B
     pub looked : OnlyLooks b old begun
     pub first : X
-    pub bound : IsBound first
     pub fresh : x.turn_count first ≡ 0
     pub faultless : x.failure_count first ≡ 0
     pub known : RoundState
-    pub begins : Begins serving.telling.balances sights moments
-        (Some (record { path = book; looked_at = None })) known
+    pub bound : IsBound known.away first
+    pub begins : Begins
+        (λ name. PutsBalances (Put name) config.plans (b.content old) (b.is_open begun))
+        serving.telling.balances polls moments book known
     pub then : RoundState
     pub ends : EndsOver (seconds_of serving.oldest_report) config serving.turns
-        (λ slices. RoundsAfter known slices then) begun new first last before after ended
+        (λ slices. RoundsAfter Put (b.is_open new) known slices then) begun new first last before
+        after ended
 
   -- The command. The sockets could not be bound, and nothing was done. Or a server ended this way
   -- over an exchange that was bound so, and had made no turn and no fault.
-  abbrev pub RunsServer : (X → Type 0) → Option (List Sight) → Option (List ℕ) → List ℕ → Serving
-      → Config → Option (List ℕ) → Option (List ℕ) → Result Status Fault → B → B → Type 0
-  RunsServer IsBound sights moments book serving config before after result old new =
+  abbrev pub RunsServer : (List ℕ → Option (List ℕ) → Type 0) → (Cell Bool → X → Type 0)
+      → Option (List Poll) → Option (List ℕ) → List ℕ → Serving → Config → Option (List ℕ) → Option (List ℕ)
+      → Result Status Fault → B → B → Type 0
+  RunsServer Put IsBound polls moments book serving config before after result old new =
       ((told : Fault) × (result ≡ Err told) × IsUnbound told × (new ≡ old) × (after ≡ before))
-      ⊎ ((ended : Ended) × (result ≡ ended_of ended) × ((last : X) × EndsAfresh IsBound sights
+      ⊎ ((ended : Ended) × (result ≡ ended_of ended) × ((last : X) × EndsAfresh Put IsBound polls
       moments book serving config old new last before after ended))

@@ -7,6 +7,7 @@
 
 mod counts;
 mod ended;
+pub mod laws;
 mod printing;
 mod sockets_server;
 mod watcher;

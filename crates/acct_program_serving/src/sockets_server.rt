@@ -1,13 +1,16 @@
 //! A server over sockets: binds them, and then runs a watched server over them.
 ghost use Rattle.std.specs.Prelude.{◌≡◌, ◌≤◌, ◌<◌, ◌^◌, IfOk, IfErr, IfSome};
-ghost use Rattle.std.specs.Prelude.{◌∷◌, [], ℕ, None, Some, Option, IsSome, IsSomeAnd, MatchOption};
+ghost use Rattle.std.specs.Prelude.{◌∷◌, [], ℕ, List, None, Option, IsSomeAnd, MatchOption};
 ghost use Rattle.std.specs.List.{AllZip};
 ghost use Rattle.std.specs.Net.Grammar.{IsDotted};
 ghost use Rattle.acct_book.specs.Step.{OnlyLooks};
 ghost use Rattle.acct_service.specs.Told.{Grows};
-ghost use Rattle.acct_program_commands.specs.Rounds.{KeepsAt, file_of, name_of};
+ghost use Rattle.acct_program_commands.specs.Placed.{PutsBalances};
+ghost use Rattle.acct_program_commands.specs.Names.{seen_of};
+ghost use Rattle.acct_program_commands.specs.Rounds.{KeepsAt, file_of};
+ghost use Rattle.acct_program_commands.specs.RoundStates.{state_of};
 ghost use Rattle.acct_program_args.specs.declared.job.BalancesFile.{BalancesFile};
-ghost use Rattle.acct_program_serving.specs.Files.{Begins, IsCounted, IsKept};
+ghost use Rattle.acct_program_serving.specs.Files.{Begins, IsCounted, IsKept, IsNamed};
 ghost use Rattle.acct_program_serving.specs.Serving.{IsBoundTo, RunsServer, IsUnbound};
 ghost use Rattle.acct_program_serving.specs.Serving.{ended_of};
 
@@ -88,9 +91,10 @@ pub fn run_serve<
     requires days { IfSome serving.now.oldest_report (λ days. days ≤ 36500) }
     ensures done { IfOk result (λ status. status ≡ Status.Done) }
     ensures serves { RunsServer B.Book ⟦<Sockets<'r, R> as Exchange>⟧
-        (λ s. IsBoundTo serving.now.listening s.event_loop.datagrams.sockets.items
-        s.event_loop.desk.door.address s.event_loop.desk.door.port × IsSome s.silenced)
-        (S.sights around.source) (S.moments around.source) database.now serving.now config.now
+        R.was_put (λ away s. IsBoundTo serving.now.listening s.event_loop.datagrams.sockets.items
+        s.event_loop.desk.door.address s.event_loop.desk.door.port
+        × IsSomeAnd s.silenced (λ flag. flag.now ≡ away))
+        (S.polls around.source) (S.moments around.source) database.now serving.now config.now
         (W.contents output.old) (W.contents output.new) result book.old book.new }
 {
     let Surroundings {
@@ -171,14 +175,12 @@ fn first_rounds<'r, R: ReplacesFiles, S: SiteSource + Drop, B: Book, E: Write + 
     mut errors: E,
 ) -> FileRounds<'r, R, S, E>
     ensures looks { OnlyLooks B.Book book.old book.new }
-    ensures begins { (named : Option BalancesFile) → IsKept named balances.entry
-        → Begins named (S.sights source) (S.moments source)
-        (name_of (Some names.entry)) (record {
-          sights = S.sights result.source;
-          moments = S.moments result.source;
-          balances = file_of result.balances;
-          name = name_of result.names;
-        }) }
+    ensures begins { (named : Option BalancesFile) (path : List ℕ) → IsKept named balances.entry
+        → IsNamed path (seen_of names.entry)
+        → Begins (λ name. PutsBalances (R.was_put name) config.now.plans (B.content book.old)
+        (B.is_open book.new)) named (S.polls source) (S.moments source)
+        path (state_of S.polls S.moments result) }
+    ensures away { result.gauges ≡ gauges.entry }
 {
     write_first(
         alloc,
@@ -203,10 +205,11 @@ fn write_first<'r, R: ReplacesFiles, S: SiteSource, B: Book, E: Write>(
     errors: &mut E,
 )
     ensures looks { OnlyLooks B.Book book.old book.new }
-    ensures unpolled { S.sights source.new ≡ S.sights source.old }
+    ensures unpolled { S.polls source.new ≡ S.polls source.old }
     ensures keeps { (moment : ℕ)
         × Grows (S.moments source.old) (moment ∷ []) (S.moments source.new)
-        × KeepsAt moment (file_of balances.old) (file_of balances.new) }
+        × KeepsAt (λ name. PutsBalances (R.was_put name) config.now.plans (B.content book.old)
+        (B.is_open book.new)) moment (file_of balances.old) (file_of balances.new) }
 {
     let moment = source.moment();
     keep_at(alloc, balances, config, book, moment, gauges, errors);

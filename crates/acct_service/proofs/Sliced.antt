@@ -8,7 +8,9 @@ use Rattle.std.proofs.lemmas.List.{map-append, append-nil}
 use Rattle.std.proofs.lemmas.List.Elements.{Contains-push_cases}
 use Rattle.std.proofs.lemmas.Grind.{flat_map-append}
 use Rattle.acct_model.specs.declared.plan.Plan.{Plan}
+use Rattle.acct_model.specs.History.{History}
 use Rattle.acct_book.specs.declared.book.Book as book
+use Rattle.acct_book.specs.Stands.{Stands}
 use Rattle.acct_book.specs.Step.{OnlyLooks}
 use Rattle.acct_site.specs.declared.config.Config.{Config}
 use Rattle.acct_service.specs.declared.exchange.Call.{Call}
@@ -16,18 +18,18 @@ use Rattle.acct_service.specs.declared.rounds.Rounds as rounds
 use Rattle.acct_service.specs.declared.server.Served.{Served}
 use Rattle.acct_service.specs.declared.slices.Until.{Until}
 use Rattle.acct_service.specs.declared.slices.Until.TheVariants as until
-use Rattle.acct_service.specs.Machine.{Visit}
+use Rattle.acct_service.specs.Machine.{Visit, Run}
 use Rattle.acct_service.specs.Serving.{Attends, AreUnder, Counts, CountsMore, TakesTurns}
 use Rattle.acct_service.specs.Serving.{is_answered}
 use Rattle.acct_wire.specs.Reasons.{count_for}
 use Rattle.acct_wire.specs.declared.reason.Reason.TheVariants.{Unavailable}
 use Rattle.acct_service.specs.Slices.{Slice, site_then, Follow, visits_in, given_in}
 use Rattle.acct_service.specs.Slices.{GoRounds, ServesInSlices, AreFull, AreStuck, NoneStuck}
-use Rattle.acct_service.specs.Slices.{EndsSo}
+use Rattle.acct_service.specs.Slices.{EndsSo, EachStandsAfter, GoOneByOne, SlicesStand}
 use Rattle.std.specs.List.{list_any, sum_by}
 use Rattle.std.proofs.lemmas.List.Sums.{sum_by-append}
 use Rattle.acct_service.proofs.Visits.{attends_none, attends_join, attends_looked, counts_join}
-use Rattle.acct_service.proofs.Visits.{grows_none}
+use Rattle.acct_service.proofs.Visits.{grows_none, run_join}
 
 -- the configuration after the last of the rounds
 abbrev pub site_after : Config → List Slice → Config
@@ -158,27 +160,139 @@ ends_early until.Stuck found visits is early stuck = stuck is
 ends_early until.Over found visits is early stuck = tt
 
 -- one round more
-rounds_more : {R : Type 0} (r : rounds.Ghosts R) (first then last : R) (slices : List Slice)
-    (slice : Slice) → GoRounds r first slices then → (slices ≢ [] → r.is_over then ≡ false)
-    → r.goes then slice.site slice.given last → GoRounds r first (slices ++ slice ∷ []) last
-rounds_more r first then last [] slice same goes_on goes = (
+rounds_more : {R : Type 0} (r : rounds.Ghosts R) (is_open : Type 0) (first then last : R)
+    (slices : List Slice) (slice : Slice) → GoRounds r is_open first slices then
+    → (slices ≢ [] → r.is_over then ≡ false) → r.goes then slice.site slice.given last
+    → (is_open → r.shows then slice.site slice.content slice.given last)
+    → GoRounds r is_open first (slices ++ slice ∷ []) last
+rounds_more r is_open first then last [] slice same goes_on goes shows = (
   last,
   subst (λ it. r.goes it slice.site slice.given last) (sym same) goes,
+  λ opened. subst (λ it. r.shows it slice.site slice.content slice.given last) (sym same) (shows opened),
   λ none. absurd (none refl),
   refl,
 )
-rounds_more r first then last (one ∷ []) slice (next, went, only, same) goes_on goes = (
+rounds_more r is_open first then last (one ∷ []) slice (next, went, shown, only, same) goes_on goes
+    shows = (
+      next,
+      went,
+      shown,
+      λ more. subst (λ it. r.is_over it ≡ false) (sym same) (goes_on (λ is. cc)),
+      rounds_more r is_open next then last [] slice same (λ none. absurd (none refl)) goes shows,
+    )
+rounds_more r is_open first then last (one ∷ second ∷ later) slice (next, went, shown, on, rest)
+    goes_on goes shows = (
+      next,
+      went,
+      shown,
+      λ more. on (λ is. cc),
+      rounds_more r is_open next then last (second ∷ later) slice rest
+          (λ more. goes_on (λ is. cc)) goes shows,
+    )
+
+-- a book that is opened later was opened before
+rounds_later : {R : Type 0} (r : rounds.Ghosts R) (is_open later_open : Type 0)
+    (was_open : later_open → is_open) (first : R) (slices : List Slice) (last : R)
+    → GoRounds r is_open first slices last → GoRounds r later_open first slices last
+rounds_later r is_open later_open was_open first [] last same = same
+rounds_later r is_open later_open was_open first (one ∷ later) last (next, went, shown, on, rest) = (
   next,
   went,
-  λ more. subst (λ it. r.is_over it ≡ false) (sym same) (goes_on (λ is. cc)),
-  rounds_more r next then last [] slice same (λ none. absurd (none refl)) goes,
+  λ opened. shown (was_open opened),
+  on,
+  rounds_later r is_open later_open was_open next later last rest,
 )
-rounds_more r first then last (one ∷ second ∷ later) slice (next, went, on, rest) goes_on goes = (
-  next,
-  went,
-  λ more. on (λ is. cc),
-  rounds_more r next then last (second ∷ later) slice rest (λ more. goes_on (λ is. cc)) goes,
-)
+
+module _ {B : Type 0} (b : book.Ghosts B) (plans : List Plan) where
+  -- one slice more
+  one_more : (slices : List Slice) (slice : Slice) (old mid turned new : B)
+      (told later last : Option (List Call)) → GoOneByOne b plans slices old mid told later
+      → (slices ≢ [] → b.is_sound mid → b.is_open mid)
+      → Attends b plans slice.visits mid turned later last → slice.content ≡ b.content turned
+      → OnlyLooks b turned new → GoOneByOne b plans (slices ++ slice ∷ []) old new told last
+  one_more [] slice old mid turned new told later last (same, told_same) opened attends content looks = (
+    turned,
+    new,
+    last,
+    subst (λ it. Attends b plans slice.visits it turned told last) same
+        (subst (λ it. Attends b plans slice.visits mid turned it last) told_same attends),
+    content,
+    looks,
+    λ none. absurd (none refl),
+    (refl, refl),
+  )
+  one_more (one ∷ []) slice old mid turned new told later last
+      (turned₁, next, mid₁, attends₁, content₁, looks₁, opened₁, (same, told_same)) opened attends content
+      looks = (
+        turned₁,
+        next,
+        mid₁,
+        attends₁,
+        content₁,
+        looks₁,
+        λ more. subst (λ it. b.is_sound it → b.is_open it) same (opened (λ is. cc)),
+        one_more [] slice next mid turned new mid₁ later last (same, told_same)
+            (λ none. absurd (none refl)) attends content looks,
+      )
+  one_more (one ∷ second ∷ others) slice old mid turned new told later last
+      (turned₁, next, mid₁, attends₁, content₁, looks₁, opened₁, rest) opened attends content looks = (
+        turned₁,
+        next,
+        mid₁,
+        attends₁,
+        content₁,
+        looks₁,
+        λ more. opened₁ (λ is. cc),
+        one_more (second ∷ others) slice next mid turned new mid₁ later last rest
+            (λ more. opened (λ is. cc)) attends content looks,
+      )
+
+  -- a book that is opened in the end was opened before
+  was_open : (slices : List Slice) (old new : B) (told later : Option (List Call))
+      → GoOneByOne b plans slices old new told later → b.is_open new → b.is_open old
+  was_open [] old new told later (same, told_same) opened = subst (λ it. b.is_open it) same opened
+  was_open (one ∷ others) old new told later
+      (turned, next, mid, attends, content, looks, more, rest) opened =
+      attends.keeps.was_open (looks.was_open (was_open others next new mid later rest opened))
+
+  each_stands : (open_sound : (book : B) → b.is_open book → b.is_sound book) (slices : List Slice)
+      (seen : List Visit) (old new : B) (told later : Option (List Call)) (history so_far : History)
+      → GoOneByOne b plans slices old new told later → b.is_open new
+      → Run plans history seen so_far → Stands plans (b.content old) so_far
+      → EachStandsAfter plans history seen slices
+  each_stands open_sound [] seen old new told later history so_far same opened run stood = tt
+  each_stands open_sound (one ∷ others) seen old new told later history so_far
+      (turned, next, mid, attends, content, looks, more, rest) opened run stood =
+      let next_open = was_open others next new mid later rest opened in
+      let still = looks.was_open next_open in
+      let it = attends.leads (open_sound turned still) so_far (λ _. stood) in
+      let joined = run_join plans history so_far it.after seen one.visits run it.run in (
+        (
+          it.after,
+          joined,
+          subst (λ c. Stands plans c it.after) (sym content) (it.stands still),
+        ),
+        each_stands open_sound others (seen ++ one.visits) next new mid later history it.after rest opened joined
+            (subst (λ c. Stands plans c it.after) (sym (looks.same next_open)) (it.stands still)),
+      )
+
+-- the law on slices
+pub slices_stand : {B : Type 0} (b : book.Ghosts B)
+    (open_sound : (book : B) → b.is_open book → b.is_sound book) → SlicesStand b
+slices_stand b open_sound plans slices old new told later go opened history stood =
+    each_stands b plans open_sound slices [] old new told later history history go opened refl stood
+
+-- two reads of the book
+looks_twice : {B : Type 0} (b : book.Ghosts B) (old mid new : B) → OnlyLooks b old mid
+    → OnlyLooks b mid new → OnlyLooks b old new
+looks_twice b old mid new first second = record {
+  was_sound = λ sound. first.was_sound (second.was_sound sound);
+  was_open = λ opened. first.was_open (second.was_open opened);
+  keeps_steady = λ steady. second.keeps_steady (first.keeps_steady steady);
+  same = λ opened. second.same opened ∙ first.same (second.was_open opened);
+  adds_none = λ sound c left. first.adds_none (second.was_sound sound) c
+      (second.adds_none sound c left);
+}
 
 module _ {B R : Type 0} (b : book.Ghosts B) (r : rounds.Ghosts R) (oldest : Option ℕ)
     (config : Config) (limit : ℕ) where
@@ -186,10 +300,12 @@ module _ {B R : Type 0} (b : book.Ghosts B) (r : rounds.Ghosts R) (oldest : Opti
   pub record Reached (old new : B) (old_told new_told : Option (List Call)) (first last : R)
       (site : Config) (made : ℕ) (served : Served) (why : Until) : Type 0 where
     pub so_far : ServesInSlices b oldest config limit old new old_told new_told
-        (λ slices. GoRounds r first slices last) made served why
+        (λ slices. GoRounds r (b.is_open new) first slices last) made served why
     pub site_is : site ≡ site_after config so_far.slices
     -- no round so far has ended the run
     pub goes_on : why ≡ until.AllMade → so_far.slices ≢ [] → r.is_over last ≡ false
+    -- nor was a sound book found shut
+    pub open_is : why ≡ until.AllMade → so_far.slices ≢ [] → b.is_sound new → b.is_open new
     pub plans_are : site.plans ≡ config.plans
 
   -- before the first slice
@@ -205,28 +321,39 @@ module _ {B R : Type 0} (b : book.Ghosts B) (r : rounds.Ghosts R) (oldest : Opti
       same_plans = λ site (place, within, is). absurd (omega (arith, within));
       went = refl;
       attends = attends_none b config.plans book told told (grows_none told);
+      one_by_one = (refl, refl);
       counts = counts;
     };
     site_is = refl;
     goes_on = λ is none. absurd (none refl);
+    open_is = λ is none. absurd (none refl);
     plans_are = refl;
   }
 
   -- one slice more, and the round after it
-  pub reached_more : (old mid looked new : B) (told later last : Option (List Call))
+  reached_more : (old mid looked new : B) (told later last : Option (List Call))
       (first before after : R) (site : Config) (made turns_made : ℕ) (was is : Served)
       (had has : Bool) (gave : Option Config) (why : Until)
       → turns_made ≡ min (limit - made) 256 → is.events ≤ was.events + turns_made
       → Reached old mid told later first before site made was until.AllMade
       → (turns : TakesTurns b oldest site mid looked later last was is had has)
       → EndsAfter why turns.visits → (why ≡ until.AllMade → r.is_over after ≡ false)
-      → OnlyLooks b looked new
+      → (why ≡ until.AllMade → b.is_sound new → b.is_open new) → OnlyLooks b looked new
       → IfSome gave (λ other. other.plans ≡ site.plans) → r.goes before site gave after
+      → (b.is_open new → r.shows before site (b.content looked) gave after)
       → Reached old new told last first after (site_then site gave) (made + turns_made) is why
   reached_more old mid looked new told later last first before after site made turns_made was is had
-      has gave why few events reached turns ends on looks plans goes =
+      has gave why few events reached turns ends on opened looks plans goes shows =
       let so_far = reached.so_far in
-      let slice : Slice = record { site = site; turns = turns_made; visits = turns.visits; given = gave } in
+      let slice : Slice = record {
+        site = site;
+        turns = turns_made;
+        visits = turns.visits;
+        content = b.content looked;
+        given = gave;
+      } in
+      let these = subst (λ ps. Attends b ps turns.visits mid looked later last) reached.plans_are
+      turns.attends in
       let visits_are : visits_in so_far.slices ++ turns.visits
       ≡ visits_in (so_far.slices ++ slice ∷ []) =
       ap (λ vs. visits_in so_far.slices ++ vs) (sym (append-nil turns.visits))
@@ -248,47 +375,25 @@ module _ {B R : Type 0} (b : book.Ghosts B) (r : rounds.Ghosts R) (oldest : Opti
                 | inl earlier ↦ so_far.same_plans other earlier
                 | inr same ↦ given_same config.plans site gave other reached.plans_are plans same
               ];
-          went = rounds_more r first before after so_far.slices slice so_far.went
-              (reached.goes_on refl) goes;
+          went = rounds_more r (b.is_open new) first before after so_far.slices slice
+              (rounds_later r (b.is_open mid) (b.is_open new)
+              (λ still. turns.attends.keeps.was_open (looks.was_open still)) first so_far.slices
+              before so_far.went) (reached.goes_on refl) goes shows;
           attends = subst (λ vs. Attends b config.plans vs old new told last) visits_are
               (attends_looked b config.plans (visits_in so_far.slices ++ turns.visits) old looked
               new told last
               (attends_join b config.plans (visits_in so_far.slices) turns.visits old mid looked
-              told later last so_far.attends
-              (subst (λ ps. Attends b ps turns.visits mid looked later last) reached.plans_are
-              turns.attends)) looks);
+              told later last so_far.attends these) looks);
+          one_by_one = one_more b config.plans so_far.slices slice old mid looked new told later last
+              so_far.one_by_one (reached.open_is refl) these refl looks;
           counts = subst (λ vs. Counts vs is) visits_are
               (counts_join (visits_in so_far.slices) turns.visits was is so_far.counts
               turns.counts);
         };
         site_is = sym (after_more config so_far.slices slice);
         goes_on = λ is some. on is;
+        open_is = λ is some. opened is;
         plans_are = same_then config.plans site gave reached.plans_are plans;
-      }
-
-  -- after a read of the book
-  pub reached_looked : (old mid new : B) (told later : Option (List Call)) (first last : R)
-      (site : Config) (made : ℕ) (served : Served) (why : Until)
-      → Reached old mid told later first last site made served why → OnlyLooks b mid new
-      → Reached old new told later first last site made served why
-  reached_looked old mid new told later first last site made served why reached looks =
-      let so_far = reached.so_far in
-      record {
-        so_far = record {
-          slices = so_far.slices;
-          full = so_far.full;
-          made = so_far.made;
-          ends = so_far.ends;
-          follow = so_far.follow;
-          same_plans = so_far.same_plans;
-          went = so_far.went;
-          attends = attends_looked b config.plans (visits_in so_far.slices) old mid new told later
-              so_far.attends looks;
-          counts = so_far.counts;
-        };
-        site_is = reached.site_is;
-        goes_on = reached.goes_on;
-        plans_are = reached.plans_are;
       }
 
   -- a slice, the round after it, and a read of the book after that
@@ -300,13 +405,14 @@ module _ {B R : Type 0} (b : book.Ghosts B) (r : rounds.Ghosts R) (oldest : Opti
       → Reached old mid told later first before (unwrap_or changed config) made was until.AllMade
       → (turns : TakesTurns b oldest site mid turned later last was is had has)
       → EndsAfter why turns.visits → (why ≡ until.AllMade → r.is_over after ≡ false)
-      → OnlyLooks b turned looked
+      → (why ≡ until.AllMade → b.is_sound new → b.is_open new) → OnlyLooks b turned looked
       → IfSome gave (λ other. other.plans ≡ site.plans) → r.goes before site gave after
+      → (b.is_open looked → r.shows before site (b.content turned) gave after)
       → OnlyLooks b looked new
       → Reached old new told last first after (unwrap_or (option_or gave changed) config) all is why
   reached_slice old mid turned looked new told later last first before after changed gave site made
-      turns_made all was is had has why all_is found few events reached turns ends on looks plans
-      goes again =
+      turns_made all was is had has why all_is found few events reached turns ends on opened looks
+      plans goes shows again =
       let now = unwrap_or changed config in
       let then = site_then now gave in
       let (taken, ended) = subst
@@ -315,8 +421,9 @@ module _ {B R : Type 0} (b : book.Ghosts B) (r : rounds.Ghosts R) (oldest : Opti
       subst (λ c. Reached old new told last first after c all is why)
       (sym (site_kept config changed gave))
       (subst (λ m. Reached old new told last first after then m is why) (sym all_is)
-      (reached_looked old looked new told last first after then (made + turns_made) is why
-      (reached_more old mid turned looked told later last first before after now made turns_made was is
-      had has gave why few events reached taken ended on looks
+      (reached_more old mid turned new told later last first before after now made turns_made was is
+      had has gave why few events reached taken ended on opened (looks_twice b turned looked new looks again)
       (subst (λ (c : Config). IfSome gave (λ other. other.plans ≡ c.plans)) found plans)
-      (subst (λ c. r.goes before c gave after) found goes)) again))
+      (subst (λ c. r.goes before c gave after) found goes)
+      (λ still. subst (λ c. r.shows before c (b.content turned) gave after) found
+      (shows (again.was_open still)))))

@@ -35,7 +35,7 @@ use Rattle.acct_service.specs.Serving.{TakesTurn, TakesTurns, Serves, Keeps, AtM
 use Rattle.acct_service.specs.Serving.{AreUnder}
 
 -- two runs are one
-run_join : (plans : List Plan) (history mid after : History) (visits more : List Visit)
+pub run_join : (plans : List Plan) (history mid after : History) (visits more : List Visit)
     → Run plans history visits mid → Run plans mid more after
     → Run plans history (visits ++ more) after
 run_join plans history mid after [] more is run =

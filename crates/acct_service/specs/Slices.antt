@@ -3,6 +3,11 @@
 use Rattle.std.specs.Prelude.{◌≡◌, ◌≢◌, ◌+◌, ◌<◌, ◌≤◌, ⊤, ℕ, List, [], ◌∷◌, Option, None, Some, map}
 use Rattle.std.specs.Prelude.{Contains, length, ◌++◌, ◌-◌, false, count_by, min}
 use Rattle.std.specs.List.{flat_map, list_any, sum_by}
+use Rattle.acct_model.specs.declared.plan.Plan.{Plan}
+use Rattle.acct_model.specs.History.{History}
+use Rattle.acct_book.specs.Content.{Content}
+use Rattle.acct_book.specs.Stands.{Stands}
+use Rattle.acct_book.specs.Step.{OnlyLooks}
 use Rattle.acct_book.specs.declared.book.Book as book
 use Rattle.acct_site.specs.declared.config.Config.{Config}
 use Rattle.acct_service.specs.declared.exchange.Call.{Call}
@@ -10,7 +15,7 @@ use Rattle.acct_service.specs.declared.rounds.Rounds as rounds
 use Rattle.acct_service.specs.declared.server.Served.{Served}
 use Rattle.acct_service.specs.declared.slices.Until.{Until}
 use Rattle.acct_service.specs.declared.slices.Until.TheVariants as until
-use Rattle.acct_service.specs.Machine.{Visit}
+use Rattle.acct_service.specs.Machine.{Visit, Run}
 use Rattle.acct_service.specs.Serving.{Attends, AreUnder, Counts, is_answered, is_dropped_for}
 use Rattle.acct_wire.specs.declared.reason.Reason.TheVariants as reason
 
@@ -22,13 +27,14 @@ MakesTurns limit old new until.Shut = (old < new) × (new ≤ old + limit)
 MakesTurns limit old new until.Stuck = (old < new) × (new ≤ old + limit)
 MakesTurns limit old new until.Over = (old < new) × (new ≤ old + limit)
 
--- A slice of turns: its configuration, its visits, and the configuration that the round after it
--- returned, if any.
+-- A slice of turns: its configuration, its visits, the content of the book after them, if that is
+-- open, and the configuration that the round after it returned, if any.
 pub record Slice : Type 0 where
   pub site : Config
   -- how many turns it has; each gives one visit or none
   pub turns : ℕ
   pub visits : List Visit
+  pub content : Content
   pub given : Option Config
 
 -- the configuration after a round
@@ -81,12 +87,47 @@ visits_in slices = flat_map (λ (slice : Slice). slice.visits) slices
 abbrev pub given_in : List Slice → List (Option Config)
 given_in slices = map (λ (slice : Slice). slice.given) slices
 
--- The rounds after each of these slices, from first to last. None but the last ended the run.
-abbrev pub GoRounds : {R : Type 0} → rounds.Ghosts R → R → List Slice → R → Type 0
-GoRounds r first [] last = first ≡ last
-GoRounds r first (slice ∷ later) last =
-    (next : _) × r.goes first slice.site slice.given next × (later ≢ [] → r.is_over next ≡ false)
-    × GoRounds r next later last
+-- a content stands for the history to which these visits lead from another one
+abbrev pub StandsAfter : List Plan → History → List Visit → Content → Type 0
+StandsAfter plans history visits content =
+    (after : History) × Run plans history visits after × Stands plans content after
+
+-- So does the content after each of these slices, with all visits up to it. `seen` are those before
+-- the first slice.
+abbrev pub EachStandsAfter : List Plan → History → List Visit → List Slice → Type 0
+EachStandsAfter plans history seen [] = ⊤
+EachStandsAfter plans history seen (slice ∷ later) =
+    StandsAfter plans history (seen ++ slice.visits) slice.content
+    × EachStandsAfter plans history (seen ++ slice.visits) later
+
+-- Slice by slice: its visits were attended over the book, and then the book was only read, by the
+-- round and by a look at whether it is open. An open book had this content then. Another slice
+-- follows only if a sound book is open.
+abbrev pub GoOneByOne : {B : Type 0} → book.Ghosts B → List Plan → List Slice → B → B
+    → Option (List Call) → Option (List Call) → Type 0
+GoOneByOne b plans [] old new told later = (new ≡ old) × (later ≡ told)
+GoOneByOne b plans (slice ∷ others) old new told later =
+    (turned next : _) × (mid : Option (List Call)) × Attends b plans slice.visits old turned told mid
+    × (slice.content ≡ b.content turned) × OnlyLooks b turned next
+    × (others ≢ [] → b.is_sound next → b.is_open next)
+    × GoOneByOne b plans others next new mid later
+
+-- What that means, from each history for which the content stood, if the book is open at the end:
+-- after each slice, and in the round after it, it stood for the history so far.
+abbrev pub SlicesStand : {B : Type 0} → book.Ghosts B → Type 0
+SlicesStand {B} b = (plans : List Plan) (slices : List Slice) (old new : B)
+    (told later : Option (List Call)) → GoOneByOne b plans slices old new told later
+    → b.is_open new → (history : History) → Stands plans (b.content old) history
+    → EachStandsAfter plans history [] slices
+
+-- The rounds after each of these slices, from first to last. None but the last ended the run. If the
+-- book is open, they showed what it had then.
+abbrev pub GoRounds : {R : Type 0} → rounds.Ghosts R → Type 0 → R → List Slice → R → Type 0
+GoRounds r is_open first [] last = first ≡ last
+GoRounds r is_open first (slice ∷ later) last =
+    (next : _) × r.goes first slice.site slice.given next
+    × (is_open → r.shows first slice.site slice.content slice.given next)
+    × (later ≢ [] → r.is_over next ≡ false) × GoRounds r is_open next later last
 
 -- Turns in slices, each under its own configuration. Together they are what turns under one
 -- configuration are, because all have the same plans. At most `limit` turns were allowed. The rounds
@@ -106,4 +147,5 @@ pub record ServesInSlices {B : Type 0} (b : book.Ghosts B) (oldest : Option ℕ)
       → site.plans ≡ config.plans
   pub went : Went slices
   pub attends : Attends b config.plans (visits_in slices) old new old_told new_told
+  pub one_by_one : GoOneByOne b config.plans slices old new old_told new_told
   pub counts : Counts (visits_in slices) served

@@ -5,6 +5,7 @@ ghost use Rattle.acct_service.specs.declared.exchange.Call.{Call};
 ghost use Rattle.acct_service.specs.Machine.{Visit};
 ghost use Rattle.acct_service.specs.Serving.{Attends};
 ghost use Rattle.acct_service.specs.Settling.{LifeSettles};
+ghost use Rattle.acct_service.specs.Slices.{SlicesStand};
 ghost use Rattle.acct_service.specs.Stops.{StopsAreLived};
 ghost use Rattle.acct_service.specs.Ages.{TakesNoneTooOld, CarriedStayCarried};
 
@@ -40,6 +41,12 @@ pub fn old_reports_are_dropped()
 /// far back. The clock has not gone back since. The delay of the copy says how long it waited.
 pub fn carried_stay_carried()
     ensures { CarriedStayCarried }
+{}
+
+/// After each slice of turns, and so in the round after it, the content of an open book stands for
+/// the history to which all events so far lead.
+pub fn slices_stand<B: Book>()
+    ensures { SlicesStand B.Book }
 {}
 
 /// Turns join. What `serve` ensures for two runs over one book and exchange holds for both

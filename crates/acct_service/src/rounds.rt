@@ -1,5 +1,6 @@
 //! What a server does between its slices of turns.
-ghost use Rattle.std.specs.Prelude.{◌≡◌, Bool, false, None, Option, IfSome};
+ghost use Rattle.std.specs.Prelude.{◌≡◌, ⊤, Bool, false, None, Option, IfSome};
+ghost use Rattle.acct_book.specs.Content.{Content};
 ghost use Rattle.acct_book.specs.Step.{OnlyLooks};
 ghost use Rattle.acct_site.specs.declared.config.Config.{Config};
 
@@ -14,6 +15,9 @@ pub trait Rounds {
     /// value after.
     ghost goes: { Self → Config → Option Config → Self → Type 0 };
 
+    /// Relates these and the content of the book that it read: what it shows of that to others.
+    ghost shows: { Self → Config → Content → Option Config → Self → Type 0 };
+
     /// Whether no turn may follow.
     ghost is_over: { Self → Bool };
 
@@ -22,7 +26,9 @@ pub trait Rounds {
     fn go_round<B: Book>(&mut self, alloc: Global, config: &Config, book: &mut B) -> Option<Config>
         ensures looks { OnlyLooks B.Book book.old book.new }
         ensures plans { IfSome result (λ site. site.plans ≡ config.now.plans) }
-        ensures goes { goes self.old config.now result self.new };
+        ensures goes { goes self.old config.now result self.new }
+        ensures shows { B.is_open book.new
+            → shows self.old config.now (B.content book.old) result self.new };
 
     /// Whether the run ends here, after a round.
     fn is_over(&self) -> bool
@@ -35,6 +41,8 @@ pub struct NoRounds;
 
 impl Rounds for NoRounds {
     ghost goes = { λ _ _ gave _. gave ≡ None };
+
+    ghost shows = { λ _ _ _ _ _. ⊤ };
 
     ghost is_over = { λ _. false };
 

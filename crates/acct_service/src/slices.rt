@@ -64,7 +64,7 @@ pub fn serve_in_slices<B: Book, X: Exchange, G: Rounds>(
     ensures within { AtMost limit result.0 }
     ensures serves { ServesInSlices B.Book rules.now.oldest rules.now.config.now limit
         book.old book.new (X.told exchange.old) (X.told exchange.new)
-        (λ slices. GoRounds G.Rounds rounds.old slices rounds.new)
+        (λ slices. GoRounds G.Rounds (B.is_open book.new) rounds.old slices rounds.new)
         (X.turn_count exchange.new - X.turn_count exchange.old) result.0 result.1 }
     // A book that always returns a balance never ends a run this way.
     ensures shut { result.1 ≡ Until.Shut → B.is_steady book.old → ⊥ }

@@ -20,18 +20,18 @@ returns-clause-does g c = rw c.told.ensures.same (elim c.match-order.branch [
     | in-Serve w' ↦ rw (w'.in-Serve.is, w'.outcome-is, ← w.of-files.ensures.database)
         (w'.serve_files.ensures.does None)
     | in-Import w' ↦ rw (w'.in-Import.is, w'.outcome-is) (
-      w'.now-import.result.moment,
-      w'.now-import.ensures.moment,
-      rw w'.now-import.ensures.input at w'.work_on.ensures.does,
+      w'.moment_of.result,
+      w'.moment_of.ensures,
+      rw w'.at-import.ensures at w'.work_on.ensures.does,
     )
     | in-Export w' ↦ rw (w'.in-Export.is, w'.outcome-is) w'.export.ensures.does
     | in-Migrate w' ↦ rw (w'.in-Migrate.is, w'.outcome-is) w'.make-in-Migrate.ensures.does
     | in-AddPlans w' ↦ rw (w'.in-AddPlans.is, w'.outcome-is) w'.make-in-AddPlans.ensures.does
     | in-Forward w' ↦ rw (w'.in-Forward.is, w'.outcome-is) (
-      w'.now-forward.result.clock.moment,
-      w'.now-forward.result.clock.written_at,
-      w'.now-forward.ensures.moment,
-      rw w'.now-forward.ensures.carrying at w'.work_on-in-Forward.ensures.does,
+      w'.read_clock-clock.result.moment,
+      w'.read_clock-clock.result.written_at,
+      w'.read_clock-clock.ensures,
+      rw w'.by-forward.ensures at w'.work_on-in-Forward.ensures.does,
     )
   ])
 ])

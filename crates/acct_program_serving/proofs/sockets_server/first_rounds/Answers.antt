@@ -3,12 +3,12 @@ use Rattle.acct_program_serving.proofs.HandedOn.{kept_first}
 use Rattle.acct_program_serving.proofs.sockets_server.first_rounds.Goals as goal
 
 pub returns-clause-begins : goal.returns-clause-begins
-returns-clause-begins g c = λ named same.
+returns-clause-begins g c = λ named path same is_named.
     let (moment, reads, keeps) = c.write_first.ensures.keeps in
     rw c.new.ensures.whole (record {
       moment = moment;
       reads = reads;
-      keeps = kept_first named c.args.balances c.write_first.new.balances moment same keeps;
+      keeps = kept_first _ named c.args.balances c.write_first.new.balances moment same keeps;
       unpolled = c.write_first.ensures.unpolled;
-      name_is = refl;
+      names = is_named;
     })

@@ -1,5 +1,5 @@
 use Rattle.std.proofs.Common.{inr, refl, subst, sym, ◌∙◌}
-use Rattle.acct_program_commands.specs.Rounds.{file_of, name_of}
+use Rattle.acct_program_commands.specs.RoundStates.{state_of}
 use Rattle.acct_program_serving.specs.Serving.{IsBoundTo}
 use Rattle.acct_program_serving.proofs.HandedOn.{ends_afresh, rounds_after}
 use Rattle.acct_program_serving.proofs.sockets_server.run_serve.Goals as goal
@@ -12,22 +12,19 @@ returns-clause-serves g c =
     let files = c.in_ok-files.ensures in
     let served = rw c.seconds_in-oldest.ensures at c.serve-sockets.ensures in
     let begins = c.first_rounds-begun.ensures.begins c.args.serving.now.telling.balances
-    files.balances in
+    c.args.database.now files.balances (names.book, names.unseen.0, names.unseen.1) in
     inr (
       c.serve-sockets.result.1,
       c.status_of.ensures.status,
       (
         c.serve-sockets.result.0,
-        ends_afresh _ _ _ _ _ _ _ _ _
-            (rw (names.book, names.unseen.0) at begins) _ _
-            (λ slices went. rounds_after _ (λ r. record {
-              sights = g.S.SiteSource.sights r.source;
-              moments = g.S.SiteSource.moments r.source;
-              balances = file_of r.balances;
-              name = name_of r.names;
-            }) (λ _ _ _ _ goes. goes) c.first_rounds-begun.result slices c.serve-sockets.new.rounds
-            went)
-            _ _ _ c.first_rounds-begun.ensures.looks _ _ (
+        ends_afresh _ _ _ _ _ _ _ _ _ _ _ _ _ _
+            begins _
+            (λ slices went. rounds_after _ g.R.ReplacesFiles.was_put _
+            (state_of g.S.SiteSource.polls g.S.SiteSource.moments) (λ _ _ _ _ goes. goes)
+            (λ _ _ _ _ _ shows. shows) c.first_rounds-begun.result slices
+            c.serve-sockets.new.rounds went)
+            c.first_rounds-begun.ensures.looks _ _ (
               subst (λ loop. IsBoundTo c.args.serving.now.listening loop.datagrams.sockets.items
                   loop.desk.door.address loop.desk.door.port) (sym same.sockets) bound.bound,
               rw same.silenced refl,

@@ -61,8 +61,9 @@ returns-in-Some-clause-serves g c =
     )) found (omega (arith, c.min-slice.ensures, c.loop-left.invariant.left))
     turns.events c.loop-left.invariant.reached taken ends
     (λ is. absurd (c.ending.ensures.early (c.in-Some.is ∙ ap (λ it. Some it) is)))
+    (λ is. absurd (c.ending.ensures.early (c.in-Some.is ∙ ap (λ it. Some it) is)))
     c.go_round.ensures.looks c.go_round.ensures.plans c.go_round.ensures.goes
-    c.ending.ensures.looks).so_far
+    c.go_round.ensures.shows c.ending.ensures.looks).so_far
 
 pub loop-left-preserved : goal.loop-left-preserved
 loop-left-preserved g c =
@@ -88,8 +89,10 @@ loop-left-preserved g c =
     c.take_turns.new.served _ _ until.AllMade
     (omega (arith, before.left, c.min-slice.ensures)) found (omega (arith, c.min-slice.ensures, c.loop-left.invariant.left))
     turns.events before.reached taken not
-    (λ is. (c.ending.ensures.goes_on c.in_default.is).1) c.go_round.ensures.looks
-    c.go_round.ensures.plans c.go_round.ensures.goes c.ending.ensures.looks in
+    (λ is. (c.ending.ensures.goes_on c.in_default.is).1)
+    (λ is. c.ending.ensures.open c.in_default.is) c.go_round.ensures.looks
+    c.go_round.ensures.plans c.go_round.ensures.goes c.go_round.ensures.shows
+    c.ending.ensures.looks in
     record {
       left = omega (arith, before.left);
       turns = omega (arith, before.turns, before.left, turns.turns, c.min-slice.ensures);
