@@ -3,6 +3,7 @@ what a backup takes for a copy.
 """
 
 import os
+import re
 import shutil
 import subprocess
 import tempfile
@@ -188,6 +189,12 @@ class Backup(Folder):
         self.assertEqual(self.copied(":"), (0, "copied; no server had the book\n"))
         with open(f"{self.folder}/copy/sizes", encoding="ascii") as file:
             self.assertEqual(file.read(), "book 12\nbook-wal 12\n")
+
+    def test_systemd_has_time_to_let_the_server_go_on(self):
+        """After 1 s on a busy machine it ended that command too, and the server stood for ever."""
+        with open(os.path.join(ROOT, "etc/backup"), encoding="utf-8") as file:
+            seconds = re.search(r"--property=TimeoutStopSec=(\d+) ", file.read()).group(1)
+        self.assertGreaterEqual(int(seconds), 60)
 
     def test_two_to_one_folder(self):
         """The second would remove what the first has, which may then take its half for a copy."""
