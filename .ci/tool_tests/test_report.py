@@ -73,7 +73,8 @@ class Report(Folder):
         self.assertEqual(tables["balances.csv"], ["al,92,51,20,40,0,83", "bo,2,0,0,0,-2,0"])
 
     def test_sessions_that_were_carried_forward(self):
-        used = [session(f"s-{at}", it, 10, EARLY) for at, it in enumerate(("al", "al", "bo", "eve"))]
+        names = enumerate(("al", "al", "bo", "eve"))
+        used = [session(f"s-{at}", it, 10, EARLY) for at, it in names]
         lines = [session("(gold)al", "al", 20, EARLY, client="(gold)"),
                  session("(gold)bo", "bo", 10, EARLY, client="(gold)")]
         self.put(BEFORE, used, [])

@@ -52,8 +52,8 @@ class Fill(Folder):
     """Pages get right sums from the program alone: it finds all rows in the log."""
 
     def filled(self, has_sums):
-        """The octets of the new file before it is filled, and as the program finds it, its rows, and
-        the names in its folder.
+        """The octets of the new file before it is filled, and as the program finds it, its rows,
+        and the names in its folder.
         """
         it = rewrite.Rewrite.__new__(rewrite.Rewrite)
         it.book, it.new_folder, it.has_sums = self.path, f"{self.folder}/new", has_sums

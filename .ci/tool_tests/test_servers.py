@@ -35,8 +35,8 @@ class Known(unittest.TestCase):
             self.assertEqual(self.known(answer), wanted)
 
     def test_what_is_no_answer(self):
-        for it in (b"", b"HTTP/1.1 abc\r\n\r\n", b"junk\r\n", b"HTTP/1.1 200 OK\r\nContent-Length: 9"
-                   b"\r\n\r\n{}"):
+        for it in (b"", b"HTTP/1.1 abc\r\n\r\n", b"junk\r\n",
+                   b"HTTP/1.1 200 OK\r\nContent-Length: 9\r\n\r\n{}"):
             self.assertIsNone(self.known(it))
 
     def test_an_octet_now_and_then_is_not_waited_for(self):

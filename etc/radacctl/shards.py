@@ -35,7 +35,8 @@ def table_of(path):
     found = {it["shard"]: it for it in places}
     if sorted(it["shard"] for it in places) != SHARDS:
         lacks = ", ".join(sorted(set(SHARDS) - set(found))) or "none"
-        raise program.Failed(f"{path} is to have each book once: it has {len(places)}, and lacks {lacks}")
+        raise program.Failed(f"{path} is to have each book once: it has {len(places)}, and lacks "
+                             f"{lacks}")
     for port in ("radius", "desk"):
         if len({(it["address"], it[port]) for it in found.values()}) < len(SHARDS):
             raise program.Failed(f"{path}: two books have one address and port ({port})")
@@ -57,7 +58,8 @@ def test_places(table, folder):
         for port in HEADER[2:]:
             other = known.get((it["address"], (port, str(it[port]))), shard)
             if other != shard:
-                raise program.Failed(f"the table has {it[port]} ({port}) for {shard}, where {other} is")
+                raise program.Failed(f"the table has {it[port]} ({port}) for {shard}, where "
+                                     f"{other} is")
 
 
 def shard_of(account):
