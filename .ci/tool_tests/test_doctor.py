@@ -720,6 +720,8 @@ class Unseen(unittest.TestCase):
             found = [it.text for it in copies.newest(folder, "2026-01-02")]
         self.assertIn(f"{path}/book-wal has not its 5 octets", found)
         self.assertNotIn(f"{path}/book has not its 1 octets", found)
+        # Its day's exports are looked for by its own name.
+        self.assertIn(f"{folder}/exports/2026-01-02 is missing: no report of that day", found)
 
     def test_a_comparison_that_goes_on_has_no_result(self):
         going = "ActiveState=activating\nResult=success\nExecMainStatus=0\n"

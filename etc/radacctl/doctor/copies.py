@@ -66,10 +66,10 @@ def newest(folder, name):
     for part in ("book", "radacctd.toml", "site.tar.gz"):
         if not os.path.exists(f"{path}/{part}"):
             yield Fault("copy-bad", f"{path} has no {part}", NOW)
-    for name, size in map(str.split, files.text(f"{path}/sizes").splitlines()):
-        status = look.status_of(f"{path}/{name}")
+    for part, size in map(str.split, files.text(f"{path}/sizes").splitlines()):
+        status = look.status_of(f"{path}/{part}")
         if status is None or status.st_size < int(size):
-            yield Fault("copy-bad", f"{path}/{name} has not its {size} octets", NOW)
+            yield Fault("copy-bad", f"{path}/{part} has not its {size} octets", NOW)
     if os.path.exists(f"{path}/site.tar.gz"):
         status, said = look.run(f"{site.SBIN}/radacctl", "site", "test", f"{path}/site.tar.gz",
                                 seconds=1800)
