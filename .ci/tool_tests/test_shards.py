@@ -2,18 +2,18 @@
 
 import collections
 import contextlib
+import fcntl
 import io
 import os
 import re
 import shutil
 import subprocess
 import tempfile
-import threading
 import time
 import unittest
 from unittest import mock
 
-from radacctl import desk, files, freeradius, main, shards as books, site
+from radacctl import desk, files, freeradius, main, program, shards as books, site
 from radacctl.commands import shards
 from radacctl.doctor import book, copies, front, kind
 from tool_tests import Folder, ROOT
@@ -61,36 +61,44 @@ class Joined(unittest.TestCase):
         other's file, or fails.
         """
         rename, path = os.rename, self.path("balances.csv")
-        faults, begun = [], []
-
-        def publish(text):
-            try:
-                files.publish(path, text, moment=self.now)
-            except OSError as why:
-                faults.append(why)
+        timer = subprocess.Popen(["cat"], stdin=subprocess.PIPE)
+        its_number = mock.patch("os.getpid", lambda: timer.pid)
 
         def late(*words):
-            if not begun:
-                begun.append(threading.Thread(target=publish, args=("the other",)))
-                begun[0].start()
-                begun[0].join(0.2)
-                self.assertFalse(os.path.exists(path))
+            with mock.patch("os.rename", rename), its_number:
+                files.publish(path, "of the timer", moment=self.now)
+            self.assertEqual(self.text("balances.csv"), "of the timer")
             rename(*words)
 
         with mock.patch("os.rename", late):
-            publish("whole")
-            begun[0].join()
-        self.assertEqual(faults, [])
-        with open(path, encoding="ascii") as file:
-            self.assertEqual(file.read(), "the other")
-        # A disk that was full may leave half a file, which the next one removes.
+            files.publish(path, "whole", moment=self.now)
+        self.assertEqual(self.text("balances.csv"), "whole")
+        # Half a file of a full disk goes at once, and that of a kill the next time.
         with mock.patch("os.fchmod", side_effect=OSError):
             self.assertRaises(OSError, files.publish, path, "account,bal", moment=self.now)
-        files.publish(path, "whole", moment=self.now)
-        with open(path, encoding="ascii") as file:
-            self.assertEqual(file.read(), "whole")
-        self.assertEqual([it for it in os.listdir(self.folder) if it.startswith("balances")],
-                         ["balances.csv"])
+        self.assertEqual(self.parts(), ["balances.csv"])
+        with its_number, mock.patch("os.rename", side_effect=SystemExit):
+            self.assertRaises(SystemExit, files.publish, path, "half", moment=self.now)
+        for count in (2, 1):
+            files.publish(path, "whole", moment=self.now)
+            self.assertEqual(len(self.parts()), count)
+            timer.communicate()
+
+    def test_who_only_reads_the_folder_stops_no_file(self):
+        """As nginx' user, which a lock of the folder let stop what FreeRADIUS knows for ever."""
+        reader = os.open(self.folder, os.O_RDONLY)
+        self.addCleanup(os.close, reader)
+        fcntl.flock(reader, fcntl.LOCK_EX)
+        with program.within(5):
+            files.publish(self.path("balances.csv"), "whole", moment=self.now)
+        self.assertEqual(self.text("balances.csv"), "whole")
+
+    def text(self, name):
+        with open(self.path(name), encoding="ascii") as file:
+            return file.read()
+
+    def parts(self):
+        return sorted(it for it in os.listdir(self.folder) if it.startswith("balances"))
 
     def test_while_one_book_is_down_the_others_go_on(self):
         self.write("s5", 5, HOUR)

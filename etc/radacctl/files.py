@@ -3,6 +3,7 @@
 import contextlib
 import errno
 import fcntl
+import glob
 import grp
 import json
 import os
@@ -145,27 +146,39 @@ def replace_in(folder, name, ending, octets, mode=0o600, rights=None, before=lam
 def publish(path, text, *, mode=0o640, moment=None):
     """Replaces a file whole, for others to read; a moment becomes its time of change.
 
-    It is the folder's owner's: root may give the command by hand, and no link is followed. Of two at
-    once one waits for the other, which has the folder's lock.
+    It is the folder's owner's: root may give the command by hand, and no link is followed. Two at
+    once have each a file of its own. A lock of the folder could be held by whoever reads it.
     """
-    new, private = path + NEW, lambda name, flags: os.open(name, flags, 0o600)
-    folder = os.open(os.path.dirname(path) or ".", os.O_RDONLY | os.O_DIRECTORY | os.O_CLOEXEC)
+    new, private = f"{path}.{os.getpid()}{NEW}", lambda name, flags: os.open(name, flags, 0o600)
+    for it in glob.glob(f"{glob.escape(path)}.*{NEW}"):
+        if it == new or not is_process(it.removesuffix(NEW).rpartition(".")[2]):
+            remove(it)
     try:
-        fcntl.flock(folder, fcntl.LOCK_EX)
-        remove(new)
         with open(new, "x", encoding="utf-8", newline="", opener=private) as file:
             file.write(text)
             file.flush()
             handle = file.fileno()
             os.fchmod(handle, mode)
             if os.geteuid() == 0:
-                owner = os.fstat(folder)
+                owner = os.stat(os.path.dirname(path) or ".")
                 os.fchown(handle, owner.st_uid, owner.st_gid)
             if moment is not None:
                 os.utime(handle, (moment, moment))
         os.rename(new, path)
-    finally:
-        os.close(folder)
+    except OSError:
+        remove(new)
+        raise
+
+
+def is_process(number):
+    """Whether a process has a number: /proc does not show another user's to a unit."""
+    try:
+        os.kill(int(number), 0)
+    except PermissionError:
+        return True
+    except (ProcessLookupError, ValueError, OverflowError):
+        return False
+    return True
 
 
 def is_opened(path):
