@@ -93,6 +93,14 @@ class Report(Folder):
         self.assertIn(f"{BEFORE} 00:00:00 (reckoned from the later export)", said)
         self.assertEqual(tables["balances.csv"], ["al,97,50,5,0,0,142"])
 
+    def test_octets_of_a_device_that_counts_wrong(self):
+        """A session has less than 2^62 octets of each direction, and no number of 64 bits three."""
+        most = (1 << 62) - 1
+        used = [session(it, "al", 3, LATE) for it in "abc"]
+        self.put(BEFORE, [], [])
+        self.put(AFTER, [[*it[:4], most, most, *it[6:]] for it in used], [])
+        self.assertEqual(self.reported()[1]["plans.csv"], [f"gold,3,{3 * most},{3 * most},9"])
+
     def test_a_balance_that_its_entries_do_not_explain(self):
         self.put(BEFORE, [], [["D1-1", "al", 100, EARLY]])
         self.put(AFTER, [session("less", "al", 3, LATE)], [["D1-1", "al", 100, EARLY]], al=1)

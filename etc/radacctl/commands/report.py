@@ -92,7 +92,7 @@ SUMS = "count(*), sum(input), sum(output), sum(charged) FROM moved WHERE kind = 
 SUMS += " OR input <> 0 OR output <> 0 OR charged <> 0)"
 # The rows of each table, in the order of its columns. Those who used most octets are first.
 ROWS = {
-    "usage": f"SELECT account, class, {SUMS} GROUP BY 1, 2 ORDER BY -sum(input + output), 1, 2",
+    "usage": f"SELECT account, class, {SUMS} GROUP BY 1, 2 ORDER BY -total(input + output), 1, 2",
     "plans": f"SELECT class, {SUMS} GROUP BY 1",
     "vouchers": 'SELECT prefix_of(voucher), count(*), sum("sum") FROM sold GROUP BY 1',
     "cashiers": 'SELECT cashier_of(voucher), count(*), sum("sum") FROM sold GROUP BY 1',
@@ -110,6 +110,18 @@ ROWS = {
 }
 
 
+class Sum:
+    """A sum of any size, as octets: SQLite's own ends a query at 2^63."""
+
+    sum = 0
+
+    def step(self, it):
+        self.sum += it
+
+    def finalize(self):
+        return b"%d" % self.sum
+
+
 class Report:
     """What happened between two exports."""
 
@@ -119,11 +131,13 @@ class Report:
         for name, function in (("is_debit", lambda it: it == debit_class), ("prefix_of", prefix_of),
                                ("cashier_of", lambda it: cashiers.get(it, ""))):
             self.opened.create_function(name, 1, function)
+        self.opened.create_aggregate("sum", 1, Sum)
         self.opened.executescript(VIEWS)
         self.tables = {name: self.rows(text) for name, text in ROWS.items()}
 
     def rows(self, text):
-        return [list(it) for it in self.opened.execute(text)]
+        return [[int(it) if isinstance(it, bytes) else it for it in row]
+                for row in self.opened.execute(text)]
 
     def counts(self):
         """How many sessions began and ended, how many debits there are, and how many sessions have
