@@ -714,12 +714,19 @@ class Unseen(unittest.TestCase):
         with tempfile.TemporaryDirectory() as folder:
             path = os.path.join(folder, "2026-01-02")
             os.mkdir(path)
-            for name, text in (("book", "x"), ("sizes", "book 1\nbook-wal 5\n")):
-                with open(os.path.join(path, name), "w", encoding="ascii") as file:
-                    file.write(text)
+            files.make(f"{path}/book", b"x")
+            said = look.run("cksum", f"{path}/book")[1].replace(f"{path}/", "")
+            files.replace(f"{path}/sizes", f"{said}7 50 book-wal\n".encode())
             found = [it.text for it in copies.newest(folder, "2026-01-02")]
-        self.assertIn(f"{path}/book-wal has not its 5 octets", found)
-        self.assertNotIn(f"{path}/book has not its 1 octets", found)
+            self.assertEqual([*copies.lost(path)], [("book-wal", "50")])
+            # sqlite3 has put the log into the file, or a check has cut it.
+            files.replace(f"{path}/book", b"yy")
+            self.assertEqual([*copies.lost(path)], [])
+            files.make(f"{path}/book-wal", b"l" * 41)
+            for octets, wanted in ((b"x", []), (b"", [("book", "1")])):
+                files.replace(f"{path}/book", octets)
+                self.assertEqual([*copies.lost(path)], wanted)
+        self.assertIn(f"{path}/book-wal has not its 50 octets", found)
         # Its day's exports are looked for by its own name.
         self.assertIn(f"{folder}/exports/2026-01-02 is missing: no report of that day", found)
 

@@ -72,16 +72,6 @@ class Night(unittest.TestCase):
         self.assertEqual((status, len(names)), (0, 1), said)
         self.assertRegex(names[0], r"^\d{4}-\d\d-\d\d$")
 
-    def test_the_lengths_of_a_sound_copy_are_those_that_it_was_read_with(self):
-        """Else a restore would refuse it: to read a log may be to cut off what is void of it."""
-        self.write("sbin/radacctd-backup", '#!/bin/sh\nmkdir "$2" && cd "$2" && echo book >book && '
-                   'echo log >book-wal && stat -c "%n %s" book* >sizes\n')
-        self.write("libexec/radacctd/radacctd",
-                   '#!/bin/sh\nwhile [ "$1" != --db ]; do shift; done\necho l >"$2-wal"\n')
-        status, said, [name] = self.night()
-        with open(self.place(f"backups/{name}/sizes"), encoding="ascii") as file:
-            self.assertEqual((status, file.read()), (0, "book 5\nbook-wal 2\n"), said)
-
     def test_a_disk_that_is_not_mounted_gets_no_copy(self):
         """It would fill the disk below, and be hidden once the right one is mounted."""
         os.makedirs(self.place("bin"))

@@ -2,9 +2,11 @@
 what a backup takes for a copy.
 """
 
+import contextlib
 import os
 import re
 import shutil
+import sqlite3
 import subprocess
 import tempfile
 import unittest
@@ -83,19 +85,37 @@ class Restore(unittest.TestCase):
 
     def test_a_copy_that_lost_a_file_on_its_way(self):
         """Without its log it is an older book, whose balances are right."""
-        self.write("2026-11-26/sizes", "book 10\nbook-wal 3\n")
+        sums = subprocess.check_output(["cksum", "book"], cwd=f"{self.folder}/2026-11-26", text=True)
+        self.write("2026-11-26/sizes", f"{sums}7 300 book-wal\n")
         for log in (None, "l", ""):
             if log is not None:
                 self.write("2026-11-26/book-wal", log)
             status, said, book = self.restored("2026-11-26")
             self.assertEqual((status, book), (1, "now"), said)
-            self.assertIn("2026-11-26 lacks book-wal 3 octets: take another copy", said)
-        # A check may write behind the end of a log.
-        for log in ("log", "log and its end"):
+            self.assertIn("2026-11-26 lacks book-wal 300 octets: take another copy", said)
+        # A check may write behind the end of a log, or cut one that the file has.
+        for log in (300 * "l", 309 * "l", 41 * "l"):
             self.write("2026-11-26/book-wal", log)
             self.assertEqual(self.restored("2026-11-26")[::2], (0, "2026-11-26"))
         self.write("2026-11-26/book-wal", "")
         self.assertEqual(self.restored("--unsound", "2026-11-26")[::2], (0, "2026-11-26"))
+        self.write("2026-11-26/book", "2026-11")
+        self.assertIn("2026-11-26 lacks book 10 octets", self.restored("2026-11-26")[1])
+
+    def test_a_copy_that_was_asked(self):
+        """sqlite3 puts the log into the file, and removes it: the copy is as sound as before."""
+        place = lambda name: os.path.join(self.folder, name)
+        backup = shutil.copy(os.path.join(ROOT, "etc/backup"), place("libexec/radacctd/backup"))
+        with contextlib.closing(sqlite3.connect(place("served"))) as book:
+            book.executescript("PRAGMA journal_mode = WAL; CREATE TABLE account (name)")
+            subprocess.run([backup, place("served"), place("copy")], check=True,
+                           stdout=subprocess.DEVNULL)
+        with contextlib.closing(sqlite3.connect(place("copy/book"))) as book:
+            self.assertEqual(book.execute("SELECT count(*) FROM account").fetchall(), [(0,)])
+        self.assertEqual(sorted(os.listdir(place("copy"))), ["book", "sizes"])
+        self.text = lambda name: ""
+        status, said, _ = self.restored("copy")
+        self.assertEqual(status, 0, said)
 
     def test_a_copy_with_wrong_balances(self):
         self.write("fault", "db: Unbalanced\n")
@@ -188,7 +208,7 @@ class Backup(Folder):
     def test_a_book_that_nobody_has(self):
         self.assertEqual(self.copied(":"), (0, "copied; no server had the book\n"))
         with open(f"{self.folder}/copy/sizes", encoding="ascii") as file:
-            self.assertEqual(file.read(), "book 12\nbook-wal 12\n")
+            self.assertRegex(file.read(), r"\A[0-9]+ 12 book\n[0-9]+ 12 book-wal\n\Z")
 
     def test_systemd_has_time_to_let_the_server_go_on(self):
         """After 1 s on a busy machine it ended that command too, and the server stood for ever."""
