@@ -5,12 +5,15 @@ import gzip
 import io
 import json
 import os
+import re
+import subprocess
 import unittest
 from unittest import mock
 
 from radacctl import logins
 from radacctl.clerk import journal, lists, work
 from radacctl.commands import report, sell
+from tool_tests import ROOT
 from tool_tests.test_clerk import NOW, NUMBERS, RIGHTS, SALE, Desk
 
 
@@ -78,6 +81,23 @@ home_server lobby {
         unseen = mock.Mock(side_effect=lists.look.Unseen("no systemd"))
         with mock.patch.object(lists.look, "properties", unseen):
             self.assertEqual(self.ask("anna", {"act": "doctor"}), (503, {"error": "away"}))
+
+    def test_what_is_not_written_down_whole_is_no_look(self):
+        """If /run is full, the page would say that nothing is wrong."""
+        path = os.path.join(ROOT, "etc/tools/radacctd-faults.service")
+        with open(path, encoding="utf-8") as file:
+            unit = file.read().replace("\\\n", "")
+        command = re.search(r"(?m)^ExecStart=(/bin/bash .*)$", unit)[1].replace("$$", "$")
+        good = set(re.search(r"(?m)^SuccessExitStatus=(.*)$", unit)[1].split()) | {"0"}
+        self.site.write("looks", "#!/bin/sh\necho critical book-away: it is. Do: wait\nexit 4\n")
+        os.chmod(self.site.path("looks"), 0o700)
+        command = command.replace("/usr/local/sbin/radacctl", self.site.path("looks"))
+        for path, wanted in ((self.site.path("said"), True), ("/dev/full", False)):
+            words = command.replace("/run/radacctd-doctor", path)
+            status = subprocess.run(words, shell=True, capture_output=True).returncode
+            self.assertEqual(str(status) in good, wanted, status)
+        with open(self.site.path("said"), encoding="ascii") as file:
+            self.assertRegex(file.read(), r"\Acritical book-away: .*\n\Z")
 
     def test_who_is_on(self):
         account = self.guest()[1]["card"]["account"].encode()
