@@ -4,8 +4,10 @@ import contextlib
 import csv
 import io
 import os
+import sqlite3
 import time
 import unittest
+from unittest import mock
 
 from radacctl import exports, program
 from radacctl.commands import report
@@ -24,6 +26,11 @@ EARLY, LATE = moment("2026-10-31 12:00"), moment("2026-11-01 12:00")
 def session(name, account, charged, last, client="nas", plan="gold", state="stopped"):
     return [client, name, account, plan, 10 * charged, 0, 10 * charged, charged, 60, EARLY, last,
             state, 0, "", ""]
+
+
+class Full(sqlite3.Connection):
+    def executemany(self, *words):
+        raise sqlite3.OperationalError("database or disk is full")
 
 
 class Report(Folder):
@@ -117,6 +124,15 @@ class Report(Folder):
                 csv.writer(file, lineterminator="\n").writerows([exports.COLUMNS["sessions"],
                                                                 *wrong])
             with self.assertRaisesRegex(program.Failed, "sessions are damaged"):
+                self.reported()
+
+    def test_a_full_disk_damages_no_export(self):
+        """SQLite's temporary file is on one, if the exports are large."""
+        self.put(BEFORE, [], [])
+        self.put(AFTER, [session("s", "al", 3, LATE)], [])
+        connect = lambda _, known=sqlite3.connect: known("", factory=Full)
+        with mock.patch("sqlite3.connect", connect):
+            with self.assertRaisesRegex(program.Failed, "^no report can be made: .* is full$"):
                 self.reported()
 
 

@@ -92,7 +92,8 @@ def tables_of(first, last):
             opened.execute(f"CREATE TABLE {what}{at} ({kinds}, {KEYS[what]}) STRICT, WITHOUT ROWID")
             if isinstance(snapshot, Snapshot):
                 insert = f"INSERT INTO {what}{at} VALUES ({', '.join('?' * len(columns))})"
-                with told(Failed, f"{snapshot.folder}: {what} are damaged: ", sqlite3.Error):
+                damaged = f"{snapshot.folder}: {what} are damaged: "
+                with told(Failed, damaged, sqlite3.IntegrityError):
                     opened.executemany(insert, (tuple(it.values()) for it in snapshot.rows(what)))
     if isinstance(first, Beginning):
         for text in REMAINS:

@@ -38,6 +38,7 @@ did not, or the exports are too few or broken, and with 2 for a bad command line
 import csv
 import datetime
 import os
+import sqlite3
 
 from radacctl import money as moneys
 from radacctl import exports, names, program, sales_log, site, stock
@@ -290,7 +291,9 @@ def main(words):
     Money.site = moneys.of_site(words.settings)
     first, last = exports.span_of(exports.snapshots_of(words.folder), begin, end)
     cashiers = {**cashiers_of_guests(), **cashiers_of(words.sales)}
-    report = Report(first, last, words.debit_class, cashiers)
+    # The disk of SQLite's temporary files may be full.
+    with program.told(program.Failed, "no report can be made: ", sqlite3.OperationalError):
+        report = Report(first, last, words.debit_class, cashiers)
     tables = tables_of(report)
     if words.csv:
         write_all(tables, words.csv)
