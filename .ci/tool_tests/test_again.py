@@ -238,7 +238,7 @@ class Again(Folder):
         with self.assertRaisesRegex(steps.Failed, "the secret of lobby"):
             secret(address="10.0.0.1", secret="a\\b")
         # One that FreeRADIUS knows already, as a part of a network, has that one's.
-        self.patched(front, "covering", lambda _: "of-all")
+        self.patched(front, "covering", lambda *_: "of-all")
         self.assertEqual(secret(address="10.0.0.1", secret="a\\b"), "of-all")
 
     @NEEDS_ROOT

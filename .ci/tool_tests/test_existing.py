@@ -126,6 +126,19 @@ class Existing(Folder):
         self.assertIn("accounting {\n\tradacctd_accounting\n", found)
         self.assertTrue(os.path.islink(path))
 
+    def test_a_client_of_a_server_that_is_not_sold_by_is_none(self):
+        """FreeRADIUS knows it there alone: what it sends to the site's server would be ignored."""
+        own = "client theirs {\n\tipaddr = 10.0.7.1\n\tsecret = of-the-partner\n}\n"
+        text = SERVER.replace("server eduroam", "server partner").replace("1812", "2812")
+        self.put("sites-enabled/partner", text.replace("authorize", own + "authorize"))
+        one = {"name": "theirs", "address": "10.0.7.1", "vendor": "aruba"}
+        wanted = self.wanted(one, virtual_servers=["eduroam"])
+        found = dict(freeradius.blocks("client", front.clients(None, wanted)))
+        self.assertNotIn(freeradius.value(found["theirs"], "secret"), ("", "of-the-partner"))
+        config = mock.Mock(clients={"freeradius": {"secret": "s" * 16}})
+        changed = [it.path for it in front.parts(wanted, config) if it.path.endswith("partner")]
+        self.assertEqual(changed, [])
+
     def test_a_secret_is_read_as_freeradius_does(self):
         """In marks of either kind, in which nothing is a comment, or in none."""
         one = {"name": "wlc", "address": "10.0.0.1", "vendor": "aruba"}

@@ -257,19 +257,19 @@ def network(name, block):
         return None
 
 
-def other_clients():
+def other_clients(servers=None):
     """The site's own clients: file, name, addresses and text of each. A virtual server may have
-    some of its own.
+    some of its own, which no other one knows: those that the site sells by, or these.
     """
-    places = [*included(), *(f"sites-enabled/{it}" for it in serving("auth", "acct"))]
+    places = [*included(), *(f"sites-enabled/{it}" for it in servers or selling())]
     return [(file, name, network(name, block), block)
             for file in dict.fromkeys(places) for name, block in blocks("client", text(file))]
 
 
-def client_at(address):
+def client_at(address, servers=None):
     """The client that the site has for these addresses in a file of its own: file, name, text."""
     wanted = ipaddress.ip_network(address)
-    return next(((file, name, block) for file, name, it, block in other_clients()
+    return next(((file, name, block) for file, name, it, block in other_clients(servers)
                  if it == wanted), None)
 
 

@@ -110,7 +110,8 @@ def parts(answers, config):
     books = config.clients["books"] if answers.pair else None
     yield of_group(raddb("radacctd", "access-servers.conf"),
                    lambda old: clients(old, answers, books, config.clients))
-    placed = (freeradius.client_at(it["address"]) for it in answers.access_servers)
+    sold = selling(answers)
+    placed = (freeradius.client_at(it["address"], sold) for it in answers.access_servers)
     for name in sorted({it[0] for it in placed if it}):
         path = place_of(name) if name.startswith("sites-enabled/") else raddb(name)
         yield File(path, lambda old, name=name: with_lines(old, name, answers))
@@ -197,6 +198,7 @@ def clients(old, answers, books=None, reporting=()):
     if books and not re.search(r"(?m)^client books ", text):
         text = text.rstrip("\n") + "\n\n" + BOOKS.format(**books)
     known = dict(freeradius.blocks("client", freeradius.without_comments(text)))
+    sold = selling(answers)
     test = {"name": TEST_USER, "address": TEST_ADDRESS, "vendor": "mikrotik"}
     for it in [*answers.access_servers, test]:
         if it["name"] in known:
@@ -204,14 +206,14 @@ def clients(old, answers, books=None, reporting=()):
             text = with_coa(text, it, known[it["name"]])
             continue
         values = {**it, **lines_of(it, test)}
-        there = freeradius.client_at(it["address"])
+        there = freeradius.client_at(it["address"], sold)
         if there:
             values["secret"] = freeradius.spelled(there[2], "secret")
         else:
-            test_name(it)
+            test_name(it, sold)
             own = lambda: reported(it, reporting) or secret(answers, f"client-{it['name']}")
             kind = "ipv6addr" if ":" in it["address"] else "ipaddr"
-            values |= {"secret": covering(it) or quoted(own()), "kind": kind}
+            values |= {"secret": covering(it, sold) or quoted(own()), "kind": kind}
             text = text.rstrip("\n") + "\n\n" + CLIENT.format(**values)
         if values["cut"] == "yes":
             text = with_home(text, it, values["secret"])
@@ -255,11 +257,11 @@ def quoted(own):
     return own if re.fullmatch(r"[A-Za-z0-9._-]+", own) else f"{mark}{own}{mark}"
 
 
-def covering(wanted):
+def covering(wanted, sold):
     """The secret that these addresses have now, as a part of a network: it stays theirs."""
     addresses = ipaddress.ip_network(wanted["address"])
     found = [(it.prefixlen, freeradius.spelled(block, "secret"))
-             for _, _, it, block in freeradius.other_clients()
+             for _, _, it, block in freeradius.other_clients(sold)
              if it and it.version == addresses.version and addresses.subnet_of(it)]
     return max(found)[1] if found else None
 
@@ -275,8 +277,8 @@ def reported(wanted, reporting):
     return known["secret"]
 
 
-def test_name(wanted):
-    for file, name, found, _ in freeradius.other_clients():
+def test_name(wanted, sold):
+    for file, name, found, _ in freeradius.other_clients(sold):
         if name == wanted["name"]:
             raise steps.Failed(f"{file} has the client {name} with the address {found}, not "
                                f"{wanted['address']}: change one of both")
@@ -286,7 +288,7 @@ def with_lines(old, file, answers):
     """A file of the site's own clients: those that are access servers get what radacctd reads."""
     text = there(old, file)
     for it in answers.access_servers:
-        found = freeradius.client_at(it["address"])
+        found = freeradius.client_at(it["address"], selling(answers))
         if not found or found[0] != file:
             continue
         if freeradius.value(found[2], "radacctd") == "no":
@@ -305,7 +307,7 @@ def others(answers):
     found = dict(freeradius.access_servers())
     has_table = freeradius.value(freeradius.text("mods-enabled", "sql"), "read_clients") == "yes"
     for it in answers.access_servers if answers.has_front else []:
-        there = freeradius.client_at(it["address"])
+        there = freeradius.client_at(it["address"], selling(answers))
         if has_table and not there and it["name"] not in found:
             yield (f"{it['name']} gets a new secret, also if the table nas has one: type it there, "
                    "or write that client into clients.conf before")
