@@ -406,6 +406,7 @@ class Cures(unittest.TestCase):
             path = os.path.join(os.path.realpath(folder), name)
             files.make(path, b"", 0o644)
             [fault] = look.open_to_others(path)
+            os.symlink("/etc/passwd", os.path.join(folder, "x-link"))
             with unittest.mock.patch.object(pages, "LOGS", f"{folder}/x*"):
                 [log] = pages.modes("")
         self.assertEqual(shlex.split(fault.cure), ["chmod", "o=", path])

@@ -8,6 +8,7 @@ import re
 import shlex
 import socket
 import ssl
+import stat
 
 from radacctl import files, freeradius, money, site
 from radacctl.clerk import rights
@@ -105,7 +106,9 @@ def serves_another(text):
 
 def modes(text):
     for path in sorted(glob.glob(LOGS)):
-        if look.mode_of(os.stat(path)) & 0o007:
+        status = os.lstat(path)
+        # nginx' user may have put a link there: root would shut what that leads to for all others.
+        if stat.S_ISREG(status.st_mode) and look.mode_of(status) & 0o007:
             yield Fault("log-open", f"others may read {path}",
                         f"chmod o= {shlex.quote(path)}; and radacctd-logs.tmpfiles: DESK.md")
     for path in named(text, "ssl_certificate_key"):
