@@ -12,11 +12,11 @@ import threading
 import unittest
 from unittest import mock
 
-from radacctl import configuration, debits, drafts, files, keys, lapses, logins, names
+from radacctl import configuration, debits, files, keys, lapses, logins, names
 from radacctl.clerk import forms, journal, rights, work
 from radacctl.commands import allow, guest, packages as sold, report
 from radacctl.doctor import web as doctor
-from radacctl.setup import answers, clerk as steps_of_clerk, steps, web
+from radacctl.setup import answers, steps, web
 from tool_tests import ROOT, called
 from tool_tests.test_guests import Site, failing
 from tool_tests.test_packages import Books
@@ -185,7 +185,7 @@ class Guests(Desk):
                 card = body["card"]
                 self.assertEqual((card["account"], card["password"]), (account.decode(), password))
                 self.assertEqual((self.keys(), len(self.site.money)), (1, 1))
-                self.assertEqual(list(drafts.all_of_them()), [])
+                self.assertEqual(list(guest.drafts()), [])
             if not was_killed:
                 break
             at += 1
@@ -560,31 +560,31 @@ class SetUp(unittest.TestCase):
 
     def test_names_are_written_and_limits_stay(self):
         wanted = answers.Answers({**self.SITE, "desk_guests": ["anna"]})
-        text = steps_of_clerk.file_of(None, wanted.clerks)
+        text = web.rights_with(None, wanted.clerks)
         self.assertEqual(rights.rights_of(text), {"guests": ["anna"], "corrections": [],
                                                   "operators": [], **rights.LIMITS})
         mine = text.replace("guests_an_hour = 60", "guests_an_hour = 7")
         wanted = answers.Answers({**self.SITE, "desk_corrections": ["bert"]})
-        found = rights.rights_of(steps_of_clerk.file_of(mine, wanted.clerks))
+        found = rights.rights_of(web.rights_with(mine, wanted.clerks))
         self.assertEqual((found["guests"], found["corrections"], found["guests_an_hour"]),
                          ([], ["bert"], 7))
-        self.assertRaises(steps.Failed, steps_of_clerk.file_of, "guests = 5", wanted.clerks)
+        self.assertRaises(steps.Failed, web.rights_with, "guests = 5", wanted.clerks)
 
     def test_who_is_no_longer_named_has_no_right(self):
         with tempfile.TemporaryDirectory() as folder:
             path = os.path.join(folder, "clerk.toml")
             with mock.patch.object(rights, "FILE", path):
-                self.assertEqual(list(steps_of_clerk.of(answers.Answers(self.SITE))), [])
+                self.assertEqual(list(web.clerk(answers.Answers(self.SITE))), [])
                 with open(path, "w", encoding="utf-8") as file:
                     file.write('guests = ["anna"]\nguests_an_hour = 7\n')
-                [_, step] = steps_of_clerk.of(answers.Answers(self.SITE))
+                [_, step] = web.clerk(answers.Answers(self.SITE))
                 found = rights.rights_of(step.wanted(b'guests = ["anna"]\nguests_an_hour = 7\n')
                                          .decode())
         self.assertEqual((found["guests"], found["guests_an_hour"]), ([], 7))
 
     def test_a_site_without_it_has_none(self):
         self.assertFalse(answers.Answers(self.SITE).has_clerk)
-        self.assertEqual([it for it in web.PACKAGES if it in steps_of_clerk.PACKAGES], [])
+        self.assertEqual([it for it in web.PACKAGES if it in web.CLERK_PACKAGES], [])
 
     def test_who_is_no_cashier_is_refused(self):
         pair = {"own": "10.0.0.5", "other": "10.0.0.6"}

@@ -9,7 +9,7 @@ import time
 import unittest
 from unittest import mock
 
-from radacctl import configuration, files, server_log, site
+from radacctl import configuration, files, site
 from radacctl.commands import edit
 from tool_tests import Folder
 
@@ -60,7 +60,7 @@ class Edits(Folder):
                        mock.patch.object(configuration, "fault_of", is_wrong),
                        mock.patch.object(files, "rows", rows),
                        mock.patch.object(site, "USER", "no-such-user"),
-                       mock.patch.object(server_log.Journal, "said", lambda *_, **__: ""),
+                       mock.patch.object(edit.Journal, "said", lambda *_, **__: ""),
                        contextlib.redirect_stdout(out), contextlib.redirect_stderr(out)):
                 stack.enter_context(it)
             try:
@@ -170,7 +170,7 @@ class Edits(Folder):
         for begun, more, wanted in (("old\n", "old\nnew\nhal", "new\n"), ("old\nolder\n", "new\n",
                                                                           "new\n")):
             self.write(self.path, begun)
-            journal = server_log.Journal(self.path)
+            journal = edit.Journal(self.path)
             self.write(self.path, more)
             self.assertEqual(journal.text(), wanted)
 

@@ -12,7 +12,7 @@ import unittest
 from unittest import mock
 
 from radacctl import desk as desks
-from radacctl import cards, codes, configuration, debits, drafts, files, lapses, logins, money
+from radacctl import cards, codes, configuration, debits, files, lapses, logins, money
 from radacctl import main, names, servers, site, stock
 from radacctl.commands import allow, debit, guest, packages as sold
 from tool_tests.test_packages import Books, Here, MEMORY, PACKAGE
@@ -80,7 +80,7 @@ class Site:
             (logins, "Child", Here), (site, "RADDB", self.folder), (sold, "store", self.store),
             (sold, "uses", self.uses), (money, "settings_in", settings),
             (site, "BALANCES", self.path("balances.csv")), (logins, "LOG", self.log),
-            (guest, "LOCK", self.path("lock")), (drafts, "FOLDER", self.path("drafts")),
+            (guest, "LOCK", self.path("lock")), (guest, "DRAFTS", self.path("drafts")),
             (configuration, "fault_of", lambda *_: ""),
             (servers, "desks_of", lambda _: []), (servers, "say", lambda _: None),
             (guest, "say", lambda _: None), (cards, "svg", lambda text: f"<svg>{text}</svg>"),
@@ -193,7 +193,7 @@ class Guests(unittest.TestCase):
                          sorted(row[0] for row in rows))
         self.assertEqual(text.count("[[key]]"), len(rows))
         self.assertEqual(len(cards), len(rows))
-        self.assertEqual(list(drafts.all_of_them()), [])
+        self.assertEqual(list(guest.drafts()), [])
         for account, _, _, password in rows:
             self.assertIn(f'account = "{account.decode()}"', text)
             self.assertIn(password, "".join(files.text(self.site.path(it)) for it in cards))
@@ -220,15 +220,17 @@ class Guests(unittest.TestCase):
 
     def test_a_damaged_draft_waits_alone(self):
         for number, text in enumerate(("", "{", "[1]", '{"step": "asked"}', "\x00" * 90)):
-            with self.subTest(text=text), mock.patch.object(drafts, "say") as said:
+            with self.subTest(text=text):
                 self.site = Site(self)
                 self.site.killed_at(9, self.new)
-                [(whole, _)] = drafts.all_of_them()
+                [(whole, _)] = guest.drafts()
                 self.site.write(f"drafts/aa-000{number}-a.json", text)
-                self.assertEqual([it for it, _ in drafts.all_of_them()], [whole])
-                guest.mend(words_of(self.site, "mend"))
-                self.assertEqual([*drafts.all_of_them()], [])
-                self.assertIn(f"aa-000{number}-a.json is damaged", said.call_args[0][0])
+                with mock.patch.object(guest, "say") as said:
+                    self.assertEqual([it for it, _ in guest.drafts()], [whole])
+                    self.assertIn(f"aa-000{number}-a.json is damaged", said.call_args[0][0])
+                    guest.mend(words_of(self.site, "mend"))
+                    self.assertEqual([*guest.drafts()], [])
+                    self.assertIn(f"aa-000{number}-a.json is damaged", said.call_args[0][0])
 
     def test_a_card_that_the_timer_may_not_remove_holds_up_nobody(self):
         """Its unit may write to few folders, and a card may be in /root."""
@@ -238,8 +240,8 @@ class Guests(unittest.TestCase):
             self.site = Site(self)
             card = self.site.path("card.html")
             self.site.killed_at(at, self.new)
-        [(_, guest_of)] = drafts.all_of_them()
-        self.assertEqual(guest_of["step"], drafts.BEGUN)
+        [(_, guest_of)] = guest.drafts()
+        self.assertEqual(guest_of["step"], guest.BEGUN)
         remove = files.remove
 
         def read_only(path):
@@ -249,7 +251,7 @@ class Guests(unittest.TestCase):
 
         with mock.patch.object(files, "remove", read_only):
             guest.mend(words_of(self.site, "mend"))
-        self.assertEqual(([*drafts.all_of_them()], self.rows()), ([], []))
+        self.assertEqual(([*guest.drafts()], self.rows()), ([], []))
 
     def test_each_step_fails(self):
         """A full disk, say: nothing is left, at once."""

@@ -12,7 +12,8 @@ import tempfile
 import unittest
 from unittest import mock
 
-from radacctl import rows, shards
+from radacctl import shards
+from radacctl.commands import rewrite
 from tool_tests import Folder, ROOT
 
 # What `check` prints and ends with, by the file `fault`, if it is asked for an audit.
@@ -141,7 +142,7 @@ class Restore(unittest.TestCase):
     def test_a_program_that_opens_the_book_meanwhile(self):
         """It would serve a file that is no book any more."""
         with open(os.path.join(self.folder, "now/book"), "r+", encoding="ascii") as file:
-            rows.lock(file)
+            rewrite.lock(file)
             status, said, book = self.restored("2026-11-26")
         self.assertEqual((status, book), (1, "now"), said)
         self.assertIn("a process has opened", said)

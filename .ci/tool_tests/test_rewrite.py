@@ -11,7 +11,6 @@ from unittest import mock
 
 from tool_tests import Folder
 
-from radacctl import rows
 from radacctl.commands import rewrite
 
 
@@ -26,7 +25,7 @@ class Signals(Folder):
         it.program, it.config = self.path, "/none"
         threading.Timer(0.5, os.kill, (os.getpid(), signal.SIGTERM)).start()
         begun = time.monotonic()
-        self.assertRaises(rows.Refused, it.export, "sessions", "/none")
+        self.assertRaises(rewrite.Refused, it.export, "sessions", "/none")
         self.assertLess(time.monotonic() - begun, 30)
 
 
@@ -38,10 +37,10 @@ class Place(Folder):
                 file.write(path)
         it = rewrite.Rewrite.__new__(rewrite.Rewrite)
         it.book, it.new, it.folder = self.path, f"{self.folder}/new", self.folder
-        it.digest, it.is_placed = rows.digest_of(self.path), False
+        it.digest, it.is_placed = rewrite.digest_of(self.path), False
         with open(self.path, "rb+") as held:
-            rows.lock(held)
-            with self.assertRaisesRegex(rows.Refused, "a process has opened .* meanwhile"):
+            rewrite.lock(held)
+            with self.assertRaisesRegex(rewrite.Refused, "a process has opened .* meanwhile"):
                 it.place()
         with mock.patch.object(rewrite.time, "sleep"):
             it.place()
@@ -62,7 +61,7 @@ class Fill(Folder):
         for path in (it.book, it.new):
             with contextlib.closing(sqlite3.connect(path)) as made:
                 made.execute("PRAGMA journal_mode = WAL")
-                for name in (*rows.FILLED, *rows.COPIED):
+                for name in (*rewrite.FILLED, *rewrite.COPIED):
                     made.execute(f"CREATE TABLE {name} (a, b)")
                 made.commit()
                 if path == it.book:
@@ -71,7 +70,7 @@ class Fill(Folder):
                     made.commit()
         before, found = self.octets(it.new), []
         it.command = lambda *_: found.append(self.octets(it.new))
-        with mock.patch.object(rows, "say"):
+        with mock.patch.object(rewrite, "say"):
             it.fill()
         with contextlib.closing(sqlite3.connect(it.new)) as opened:
             names = sorted(os.listdir(it.new_folder))

@@ -36,7 +36,7 @@ import sys
 import time
 import tomllib
 
-from radacctl import configuration, files, keys, plans, program, server_log, site
+from radacctl import configuration, files, keys, plans, program, site
 from radacctl.plans import shown
 from radacctl.program import fail, say, told
 
@@ -52,6 +52,7 @@ in force. Nothing is answered for about {pause} seconds:
     radacctd plans --config {config} --db {book}
     systemctl start {unit}"""
 
+UNIT = os.environ.get("RADACCTD_UNIT", "radacctd")
 Rights = collections.namedtuple("Rights", "user group mode")
 
 
@@ -146,6 +147,44 @@ def test_rights(config):
     owner = os.stat(config).st_uid
     if os.geteuid() not in (0, owner):
         fail(f"{config} belongs to the user {owner}: be that user, or root")
+
+
+class Journal:
+    """The lines of the server since now: in a file, or in the journal of its unit."""
+
+    def __init__(self, log):
+        self.log, self.begin, self.size = log, int(time.time()), 0
+        if log:
+            self.size = os.stat(log).st_size
+        else:
+            found = self.said("-n", "0", "--show-cursor")
+            cursor = re.search(r"(?m)^-- cursor: (.*)$", found)
+            self.since = ["--after-cursor", cursor[1]] if cursor else ["--since", f"@{self.begin}"]
+
+    @staticmethod
+    def said(*words, tool=("journalctl", "-u", UNIT)):
+        how = {"stdin": subprocess.DEVNULL, "capture_output": True, "text": True}
+        with contextlib.suppress(OSError):
+            done = subprocess.run([*tool, *words], errors="replace", **how)
+            return done.stdout if done.returncode == 0 else ""
+        return ""
+
+    def text(self):
+        """Whole lines."""
+        text = self.said(*self.since, "-o", "cat", "--no-pager") if not self.log else ""
+        if self.log:
+            with open(self.log, "rb") as file:
+                # A log that is shorter now was begun anew.
+                file.seek(self.size if os.fstat(file.fileno()).st_size >= self.size else 0)
+                text = file.read().decode("utf-8", "replace")
+        return text[: text.rfind("\n") + 1]
+
+    def is_served(self, config):
+        """Whether a server of this configuration runs whose lines can be read."""
+        state = self.said("show", UNIT, "--property", "ActiveState", "--property", "ExecStart",
+                          tool=("systemctl",))
+        is_down = re.search(r"(?m)^ActiveState=(?!active|reloading)", state)
+        return bool(self.log) or (config in state and not is_down)
 
 
 class Edit:
@@ -260,7 +299,7 @@ class Edit:
             say(f"these plans are not in {whose}:")
             tell(added)
             pause = 2 * (os.stat(self.words.db).st_size // OCTETS_A_SECOND + 1)
-            print(WAITS.format(pause=pause, unit=server_log.UNIT, config=self.config,
+            print(WAITS.format(pause=pause, unit=UNIT, config=self.config,
                                book=self.words.db), file=sys.stderr)
         else:
             return "w"
@@ -314,7 +353,7 @@ class Edit:
                 fail(f"{self.config} was made by another program; see {self.copy}")
             if not self.is_new and octets_of(self.config) != self.was:
                 self.take_changes()
-            journal = server_log.Journal(self.words.log)
+            journal = Journal(self.words.log)
             self.put(self.config, octets_of(self.copy))
             files.sync_folder(os.path.dirname(self.config))
             files.remove(self.copy)

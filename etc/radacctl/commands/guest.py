@@ -37,7 +37,7 @@ import time
 import unicodedata
 
 from radacctl import desk as desks
-from radacctl import cards, codes, configuration, drafts, files, keys, lapses, logins, names
+from radacctl import cards, codes, configuration, files, keys, lapses, logins, names
 from radacctl import packages, program, servers, site, stock
 from radacctl.commands import packages as sold
 from radacctl.commands import sell as sells
@@ -45,6 +45,11 @@ from radacctl.program import fail, say
 
 STOPPED = "stopped; the next `radacctl guest` completes it, or takes it back"
 LOCK = "/run/radacctd-guest.lock"
+# Guests who are being made, until they are, each in a file of root's: FreeRADIUS' user writes the
+# database of logins, and is to credit nothing and to remove no file.
+DRAFTS, DRAFT = f"{site.BOOKS}/guests", re.compile(r"([a-z0-9-]{1,48})\.json")
+# How far a guest is made: nothing was sent yet, or the desk was asked.
+BEGUN, ASKED = "begun", "asked"
 CARD = """\
 <p><b>{house}</b>{wifi}</p>
 <p>Name: <code>{account}</code><br>Password / Passwort: <code>{password}</code></p>
@@ -65,6 +70,39 @@ class NoKey(NotMade):
 def locked(patience=60):
     """One at a time makes, ends or mends guests."""
     return stock.locked(LOCK, patience, os.O_RDWR | os.O_CREAT | os.O_NOFOLLOW)
+
+
+def keep_draft(account, guest):
+    """Writes what a guest is being made with, whole and on the disk."""
+    for path in (os.path.dirname(DRAFTS), DRAFTS):
+        files.make_folder(path)
+    files.replace(os.path.join(DRAFTS, f"{account}.json"), json.dumps(guest).encode())
+
+
+def drafts():
+    """The guests that were begun and not finished. One whose file is damaged is named, and waits."""
+    for name in sorted(os.listdir(DRAFTS) if os.path.isdir(DRAFTS) else []):
+        if found := DRAFT.fullmatch(name):
+            path = os.path.join(DRAFTS, name)
+            if (guest := draft_in(path)) is None:
+                say(f"{path} is damaged, so {found[1]} waits: put it back from a copy")
+            else:
+                yield found[1], guest
+
+
+def draft_in(path):
+    """What the guest of this file is being made with, or None if it doesn't say that."""
+    try:
+        guest = json.loads(files.text(path))
+    except ValueError:
+        return None
+    is_whole = isinstance(guest, dict) and guest.get("step") in (BEGUN, ASKED)
+    return guest if is_whole and {"card", "sum"} <= guest.keys() else None
+
+
+def drop_draft(account):
+    files.remove(os.path.join(DRAFTS, f"{account}.json"))
+    files.sync_folder(DRAFTS)
 
 
 def slug_of(name):
@@ -117,16 +155,16 @@ def make(logins_store, words, name, package, site_money, url, card=None, note=la
     `note` gets the account before anything of it is made. The lock is held.
     """
     account = new_account(name, logins_store, words.config)
-    guest = {"step": drafts.BEGUN, "name": name, "card": card,
+    guest = {"step": BEGUN, "name": name, "card": card,
              "token": keys.new_token("") if url else None, "sum": package.credit}
     password = f"{stock.letters(5)}-{stock.letters(5)}"
     note(account)
-    drafts.keep(account, guest)
+    keep_draft(account, guest)
     try:
         insert(logins_store, account, password, package, name)
         add_key(account, guest, words)
         write_card(account, password, package, site_money, guest, url)
-        drafts.keep(account, {**guest, "step": drafts.ASKED})
+        keep_draft(account, {**guest, "step": ASKED})
     except BaseException:
         take_back(logins_store, account, guest, words)
         raise
@@ -212,7 +250,7 @@ def is_let_in(logins_store, account):
     except logins.Fault as why:
         say(f"{account} is sold, and logs in within a minute, or by radacctl guest mend: {why}")
         return False
-    drafts.drop(account)
+    drop_draft(account)
     return True
 
 
@@ -242,7 +280,7 @@ def take_back(logins_store, account, guest, words):
         say(f"remove {card}, by which nobody logs in: {program.reason(why)}")
     logins_store.run(("DELETE FROM login WHERE account = ? AND state = 'making'",
                       (account.encode(),)))
-    drafts.drop(account)
+    drop_draft(account)
 
 
 def end_keys(accounts, words):
@@ -257,8 +295,8 @@ def end_keys(accounts, words):
 def mend_all(logins_store, words):
     """Completes or takes back what a killed run left, and ends the keys of guests who ended."""
     logins.mend(logins_store)
-    for account, guest in drafts.all_of_them():
-        if guest["step"] == drafts.BEGUN:
+    for account, guest in drafts():
+        if guest["step"] == BEGUN:
             take_back(logins_store, account, guest, words)
             continue
         with contextlib.suppress(NotMade):

@@ -31,26 +31,102 @@ line on standard error says why.
 
 import argparse
 import contextlib
+import fcntl
 import hashlib
+import itertools
 import os
 import shutil
 import signal
 import sqlite3
 import stat
+import struct
 import subprocess
 import sys
 import time
 import urllib.parse
 
-from radacctl import files, program, rows, site
+from radacctl import files, program, site
 from radacctl.files import remove, sync_folder as sync
-from radacctl.program import say
+from radacctl.program import Failed, say
 
 EXPORTS = ("sessions", "balances", "topups", "overruns")
 # What may be in BOOK.new.
 PARTS = ("book", "book-wal", "book-shm", "book-journal", "book-empty", "book-log")
 # The memory for pages, in KiB.
 CACHE = 65_536
+# The tables that `init` fills, and those that are copied.
+FILLED = ("meta", "price_plan", "plan_count")
+COPIED = ("account", "voucher", "session", "session_plan")
+# Both files, in one connection.
+NEW, OLD = "main", "old"
+# A log shorter than its header, a frame's header and the smallest page has no frame.
+LEAST_LOG = 32 + 24 + 512
+# The octet of a database's header that says how many octets at the end of each page are a sum's.
+SUM_AT, SUM_OCTETS = 20, 8
+# The lock that a program has of the file of a book that it has open, where SQLite has it. It
+# belongs to the open file: struct flock of l_type, l_whence, l_start, l_len and l_pid.
+LOCK = struct.pack("hhqqi4x", fcntl.F_WRLCK, os.SEEK_SET, 1 << 30, 512, 0)
+
+
+class Refused(Failed):
+    """Why the book stays as it is."""
+
+
+def lock(file):
+    """Lets no program open a book until this file of it is closed."""
+    try:
+        fcntl.fcntl(file, fcntl.F_OFD_SETLK, LOCK)
+    except (BlockingIOError, PermissionError):
+        raise Refused(f"a process has opened {file.name} meanwhile") from None
+
+
+def digest_of(path):
+    with open(path, "rb") as file:
+        return hashlib.file_digest(file, "sha256").digest()
+
+
+def has_sums(book):
+    """Whether the pages of a database end in sums."""
+    with open(book, "rb") as file:
+        return file.read(SUM_AT + 1)[SUM_AT] == SUM_OCTETS
+
+
+def test_log(book):
+    """The log has no frame, so the file alone is the book."""
+    with contextlib.suppress(FileNotFoundError):
+        size = os.stat(f"{book}-wal").st_size
+        if size >= LEAST_LOG:
+            raise Refused(f"the log of {book} still has {size} octets")
+
+
+def test_tables(opened):
+    """Both have the tables that this program knows."""
+    text = "SELECT type, name, tbl_name, sql FROM {}.sqlite_schema ORDER BY rowid"
+    new, old = (opened.execute(text.format(it)).fetchall() for it in (NEW, OLD))
+    tables = {row[1] for row in old if row[0] == "table"}
+    if old != new or tables != {*FILLED, *COPIED}:
+        raise Refused("the book has other tables than this tool knows")
+
+
+def copy(opened):
+    """Copies all rows in their order, in one transaction, and compares them."""
+    test_tables(opened)
+    opened.execute("BEGIN IMMEDIATE")
+    for table in COPIED:
+        rows = f"INSERT INTO {NEW}.{table} SELECT * FROM {OLD}.{table} ORDER BY rowid"
+        say(f"copied {opened.execute(rows).rowcount} rows of {table}")
+    opened.execute("COMMIT")
+    say("comparing each row")
+    for table in (*FILLED, *COPIED):
+        compare(opened, table)
+
+
+def compare(opened, table):
+    """Each row is in both, in the same order; that of the tables that `init` fills is free."""
+    text = f"SELECT * FROM {{}}.{table} ORDER BY {'1' if table in FILLED else 'rowid'}"
+    new, old = (opened.execute(text.format(it)) for it in (NEW, OLD))
+    if any(one != other for one, other in itertools.zip_longest(new, old)):
+        raise Refused(f"the new file has other rows of {table}")
 
 
 class Rewrite:
@@ -68,16 +144,16 @@ class Rewrite:
 
     def begin(self):
         """Tests what is there."""
-        with program.told(rows.Refused, f"{self.book}: "):
+        with program.told(Refused, f"{self.book}: "):
             status = os.stat(self.book)
         if not stat.S_ISREG(status.st_mode):
-            raise rows.Refused(f"{self.book} is no file")
+            raise Refused(f"{self.book} is no file")
         if os.geteuid() != status.st_uid:
-            raise rows.Refused(f"{self.book} is another user's: be root, and let that user own its "
+            raise Refused(f"{self.book} is another user's: be root, and let that user own its "
                                "folder")
         # One rewrite or restore at a time in a folder. The lock ends with this process.
         if not files.is_locked(os.open(self.folder, os.O_RDONLY)):
-            raise rows.Refused(f"another rewrite or a restore is in {self.folder}")
+            raise Refused(f"another rewrite or a restore is in {self.folder}")
         refuse_if_held(self.book)
         self.is_begun = True
         self.remove_new()
@@ -88,7 +164,7 @@ class Rewrite:
             return
         is_own = stat.S_ISDIR(os.lstat(self.new_folder).st_mode)
         if not is_own or not set(os.listdir(self.new_folder)) <= set(PARTS):
-            raise rows.Refused(f"{self.new_folder} is in the way, and no rewrite made it: move it "
+            raise Refused(f"{self.new_folder} is in the way, and no rewrite made it: move it "
                                "away")
         for name in PARTS:
             remove(os.path.join(self.new_folder, name))
@@ -100,7 +176,7 @@ class Rewrite:
         done = subprocess.run(words, capture_output=True, text=True)
         if done.returncode:
             said = done.stderr.strip().replace("\n", "; ") or f"status {done.returncode}"
-            raise rows.Refused(f"`radacctd {name}` says of {book}: {said}")
+            raise Refused(f"`radacctd {name}` says of {book}: {said}")
 
     def export(self, what, book):
         """The digest of an export. Standard error has what the program says."""
@@ -113,14 +189,14 @@ class Rewrite:
                 process.kill()
                 raise
         if process.returncode:
-            raise rows.Refused(f"`radacctd export {what}` of {book}: status {process.returncode}")
+            raise Refused(f"`radacctd export {what}` of {book}: status {process.returncode}")
         return found
 
     def empty_log(self):
         """Lets the program copy the log into the file, so that the file alone is the book."""
         self.command("plans", self.book)
-        rows.test_log(self.book)
-        self.digest = rows.digest_of(self.book)
+        test_log(self.book)
+        self.digest = digest_of(self.book)
 
     def fill(self):
         """Copies all rows into the new file, and compares them. SQLite copies the log into the file
@@ -130,7 +206,7 @@ class Rewrite:
         if self.has_sums:
             shutil.copyfile(self.new, empty)
         with contextlib.closing(self.both()) as opened:
-            rows.copy(opened)
+            copy(opened)
             if self.has_sums:
                 os.link(f"{self.new}-wal", log)
             else:
@@ -152,7 +228,7 @@ class Rewrite:
         opened.execute("PRAGMA synchronous = FULL")
         opened.execute("PRAGMA wal_autocheckpoint = 0")
         opened.execute(f"PRAGMA cache_size = -{CACHE}")
-        opened.execute(f"ATTACH ? AS {rows.OLD}", (f"{old}?mode=ro&immutable=1",))
+        opened.execute(f"ATTACH ? AS {OLD}", (f"{old}?mode=ro&immutable=1",))
         # Python sees a signal only between two steps of its own, and one statement copies a table.
         opened.set_progress_handler(lambda: 0, 1_000_000)
         return opened
@@ -161,7 +237,7 @@ class Rewrite:
         """Makes the new file, and compares it with the old one."""
         os.mkdir(self.new_folder, 0o700)
         if self.has_sums is None:
-            self.has_sums = rows.has_sums(self.book)
+            self.has_sums = has_sums(self.book)
         self.command("init", self.new, *(["--page-sums"] if self.has_sums else []))
         self.fill()
         say("checking the new file")
@@ -169,10 +245,10 @@ class Rewrite:
         for what in EXPORTS:
             say(f"comparing the export of {what}")
             if self.export(what, self.book) != self.export(what, self.new):
-                raise rows.Refused(f"the new file has another export of {what}")
-        rows.test_log(self.new)
-        if rows.has_sums(self.new) != self.has_sums:
-            raise rows.Refused(f"{self.new} is a file of another kind")
+                raise Refused(f"the new file has another export of {what}")
+        test_log(self.new)
+        if has_sums(self.new) != self.has_sums:
+            raise Refused(f"{self.new} is a file of another kind")
 
     def finish(self):
         """Gives the new file what the old one has but its name, and syncs it."""
@@ -190,7 +266,7 @@ class Rewrite:
     def place(self):
         """Puts the new file in the place of the old one, which no program can open meanwhile."""
         with open(self.book, "rb+") as old:
-            rows.lock(old)
+            lock(old)
             self.refuse_if_changed(old)
             # Its log goes first, so that none can be read with the new file. It has nothing.
             remove(self.book + "-wal")
@@ -205,9 +281,9 @@ class Rewrite:
 
     def refuse_if_changed(self, old):
         is_same = os.path.samestat(os.fstat(old.fileno()), os.stat(self.book))
-        if not is_same or rows.digest_of(self.book) != self.digest:
-            raise rows.Refused(f"{self.book} was changed meanwhile")
-        rows.test_log(self.book)
+        if not is_same or digest_of(self.book) != self.digest:
+            raise Refused(f"{self.book} was changed meanwhile")
+        test_log(self.book)
 
     def run(self):
         self.begin()
@@ -226,10 +302,10 @@ def refuse_if_held(book):
     for mode, what in (("--removed", "a removed file or log of it"), ("--all", "it")):
         done = subprocess.run([site.part("holders"), mode, book], capture_output=True, text=True)
         if done.returncode:
-            raise rows.Refused(done.stderr.strip().removeprefix("holders: "))
+            raise Refused(done.stderr.strip().removeprefix("holders: "))
         pids = " ".join(done.stdout.split())
         if pids:
-            raise rows.Refused(f"process {pids} has {what} open: {book}. Stop the server first")
+            raise Refused(f"process {pids} has {what} open: {book}. Stop the server first")
 
 
 def leave_root(words):
@@ -239,7 +315,7 @@ def leave_root(words):
     book, config = os.path.abspath(words.book), os.path.abspath(words.config)
     done = subprocess.run([site.part("as-owner"), "--words", book], capture_output=True, text=True)
     if done.returncode:
-        raise rows.Refused(done.stderr.strip().removeprefix("as-owner: "))
+        raise Refused(done.stderr.strip().removeprefix("as-owner: "))
     if not done.stdout:
         return
     # Root sees what other users' processes have open.
@@ -255,7 +331,7 @@ def leave_root(words):
 
 
 def ended(number, _):
-    raise rows.Refused(f"ended by {signal.Signals(number).name}")
+    raise Refused(f"ended by {signal.Signals(number).name}")
 
 
 def megabytes(octets):
@@ -280,13 +356,13 @@ def main(words):
         leave_root(words)
         rewrite = Rewrite(words.config, words.book, words.page_sums)
         before, after = rewrite.run()
-    except (rows.Refused, site.Missing, OSError, sqlite3.Error) as fault:
+    except (Refused, site.Missing, OSError, sqlite3.Error) as fault:
         is_placed = rewrite is not None and rewrite.is_placed
         say(f"{fault}. The book is {'the new file' if is_placed else 'as it was'}")
         return 0 if is_placed else 1
     finally:
         if rewrite is not None and rewrite.is_begun:
-            with contextlib.suppress(rows.Refused, OSError):
+            with contextlib.suppress(Refused, OSError):
                 rewrite.remove_new()
     print(f"{rewrite.book}: {megabytes(before)} before, {megabytes(after)} now")
     return 0

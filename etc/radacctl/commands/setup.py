@@ -35,7 +35,7 @@ import sys
 from radacctl import files, program, site
 from radacctl.commands import doctor
 from radacctl.doctor import copies, kind
-from radacctl.setup import alone, answers, away, clerk, devices, front, pair, proof, sql, steps, web
+from radacctl.setup import alone, answers, away, devices, front, pair, proof, sql, steps, web
 
 SAMPLE = """\
 name = "Hotel Example"              # on pages and printed vouchers
@@ -97,7 +97,7 @@ def parser():
 def packages_of(wanted):
     parts = [(wanted.has_front, front.PACKAGES), (wanted.sql, sql.PACKAGES),
              (wanted.host, web.PACKAGES), (wanted.has_codes, web.CODES),
-             (wanted.has_clerk, clerk.PACKAGES)]
+             (wanted.has_clerk, web.CLERK_PACKAGES)]
     return [*dict.fromkeys(it for is_wanted, found in parts if is_wanted for it in found)]
 
 

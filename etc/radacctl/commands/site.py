@@ -34,7 +34,7 @@ import re
 import time
 import tomllib
 
-from radacctl import archive, files, freeradius, logins, plans, program, restoring, site, stock
+from radacctl import archive, files, freeradius, logins, plans, program, site, stock
 from radacctl.doctor import look
 from radacctl.files import opened_folder as opened, regular
 from radacctl.program import say
@@ -215,7 +215,7 @@ def show(words):
 
 def restore(words):
     summary = archive.test_archive(words.file)
-    restoring.Restoring(words.file, summary).run()
+    archive.Restoring(words.file, summary).run()
     for name in summary["members"]:
         with contextlib.suppress(KeyError):
             pwd.getpwnam(name)

@@ -7,9 +7,11 @@ import shlex
 import tempfile
 
 from radacctl import files, freeradius, money, site, stock
+from radacctl.clerk import rights
 from radacctl.doctor import kind, look, machine, web as of_web
 from radacctl.doctor.web import FILTER, FOLDER, JAIL
-from radacctl.setup import clerk, pair, steps
+from radacctl.program import told
+from radacctl.setup import pair, steps
 from radacctl.setup.alone import NOTES, Command, File, Folder, unit, user
 from radacctl.setup.front import is_debians, member
 from radacctl.setup.steps import Fresh, Link, Step, Trial
@@ -20,6 +22,13 @@ CONF = kind.NGINX
 CERTIFICATE, PRIVATE_KEY = "/etc/ssl/radacctd.pem", "/etc/ssl/private/radacctd.key"
 PASSWORDS = f"{NOTES}/cashiers.txt"
 TEST = ("nginx", "-t")
+CLERK_USER = "radacctd-clerk"
+CLERK_PACKAGES = ["fcgiwrap", "qrencode"]
+SOCKETS = ("radacctd-clerk.socket", "radacctd-clerk-work.socket")
+CLERK_HEAD = """\
+# What cashiers may do at the front desk's page beyond a sale, and how often in an hour. `radacctl
+# setup` writes the names; the numbers are yours. A change counts at once.
+"""
 
 
 def of(answers, config):
@@ -36,7 +45,7 @@ def of(answers, config):
     yield no_fcgiwrap()
     if answers.has_codes:
         yield from codes(config)
-    yield from clerk.of(answers)
+    yield from clerk(answers)
     yield Command("take Debian's own page of nginx away", lambda: not has_debians_page(), "rm",
                   "-f", DEFAULT)
     yield nginx()
@@ -208,6 +217,28 @@ def codes(config):
         yield Folder(folder, 0o750, of_group=group)
     yield File(site.REDEEM_KEY, config.keys["redeem"] + "\n", 0o640, of_group=group)
     yield unit("radacctd-redeem.socket")
+
+
+def clerk(answers):
+    """What cashiers may do beyond a sale. A site without them has none of these."""
+    if not answers.has_clerk and not os.path.lexists(rights.FILE):
+        return
+    yield Folder(os.path.dirname(rights.FILE))
+    # Who is no longer named has no longer a right, be it the last one.
+    yield File(rights.FILE, lambda old: rights_with(old, answers.clerks), 0o644)
+    if not answers.has_clerk:
+        return
+    yield user(CLERK_USER)
+    for name in reversed(SOCKETS):
+        yield unit(name)
+
+
+def rights_with(old, clerks):
+    """The file with these names, and the limits that it had."""
+    with told(steps.Failed, f"{rights.FILE}: ", rights.Wrong):
+        had = rights.rights_of(old or "")
+    lines = [f"{name} = {json.dumps(found, ensure_ascii=False)}" for name, found in clerks.items()]
+    return CLERK_HEAD + "\n".join([*lines, *(f"{it} = {had[it]}" for it in rights.LIMITS), ""])
 
 
 def no_fcgiwrap():
