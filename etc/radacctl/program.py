@@ -3,11 +3,16 @@
 import argparse
 import contextlib
 import os
+import re
 import signal
 import sys
+import time
 
 # As the caller spelled it, `radacctl sell`, or an older name.
 NAME = "radacctl"
+# In what a command line may have: an option, and perhaps its value; an argument, which may be left
+# out, or be several.
+WORDS = re.compile(r"--([a-z-]+)(?: ([A-Z][A-Z.-]*))?|(\[)?([A-Za-z]+)(\.\.)?\]?")
 # What separates the lines of a longer text, and what is on them.
 LINES = "\n\t"
 
@@ -97,14 +102,45 @@ def show(text):
             os.dup2(os.open(os.devnull, os.O_WRONLY), stream.fileno())
 
 
-def parser(text):
+def until(holds, seconds, pause=0.2):
+    """Asks until something holds, at most for so many seconds: what was answered last."""
+    end = time.monotonic() + seconds
+    while not (found := holds()) and time.monotonic() <= end:
+        time.sleep(pause)
+    return found
+
+
+def parser(text, words="", **usual):
     """A parser whose help is this text. No option may be cut short: a later one might be meant."""
     how = {"formatter_class": argparse.RawDescriptionHelpFormatter, "allow_abbrev": False}
-    return argparse.ArgumentParser(prog=NAME, description=text, **how)
+    return add(argparse.ArgumentParser(prog=NAME, description=text, **how), words, **usual)
 
 
-def options(it, metavar, **usual):
-    """Adds options with a value, which is of the kind that it has unless it is given."""
-    for name, value in usual.items():
-        kind = str if value is None else type(value)
-        it.add_argument("--" + name.replace("_", "-"), default=value, metavar=metavar, type=kind)
+def add(it, words, **usual):
+    """Adds what a command line may have, as its help has it: `--sum SUM --yes WHAT [FILE] NAME..`.
+
+    A value is of the kind of the usual one; or `usual` says of which kind, and it may be missing.
+    """
+    for option, value, may_lack, name, many in WORDS.findall(words):
+        default = usual.get((option or name.lower()).replace("-", "_"))
+        kind = default if callable(default) else str if default is None else type(default)
+        how = {"default": None if callable(default) else default, "type": kind}
+        if name:
+            how["nargs"] = "?" if may_lack else "+" if many else None
+            it.add_argument(name.lower(), metavar=name, **how)
+        elif value:
+            it.add_argument(f"--{option}", metavar=value, **how)
+        else:
+            it.add_argument(f"--{option}", action="store_true")
+    return it
+
+
+def acts(it, words, metavar=None, **usual):
+    """Adds what a command can be told to do, by the words of each; returns the parser of each. One
+    without words hands on whatever follows.
+    """
+    metavar = metavar or " | ".join(words)
+    parsers = it.add_subparsers(dest="act", required=True, metavar=metavar)
+    all_of_it = {"add_help": False, "allow_abbrev": False}
+    return {act: add(parsers.add_parser(act, **(all_of_it if more is None else {})), more or "",
+                     **usual) for act, more in words.items()}

@@ -156,13 +156,9 @@ def allow(words, rows, money):
 
 
 def parser():
-    it = program.parser(__doc__)
-    it.add_argument("list", metavar="LIST")
+    it = program.parser(__doc__, "LIST --sum SUM --lapse --dry-run --balances FILE --notes FILE",
+                        balances=site.BALANCES, notes=NOTES)
     it.add_argument("--month", required=True)
-    it.add_argument("--sum")
-    it.add_argument("--lapse", action="store_true")
-    it.add_argument("--dry-run", action="store_true")
-    program.options(it, "FILE", balances=site.BALANCES, notes=NOTES)
     sells.add_desk(it, 60)
     debit.add_to(it)
     return it

@@ -105,29 +105,21 @@ def server_of(path):
 
 
 def parser():
-    it = program.parser(__doc__)
-    add_files(it)
     host, port = server_of(debits.DEFAULTS)
-    program.options(it, "A.B.C.D", host=host)
-    program.options(it, "PORT", port=port)
-    it.add_argument("--file", metavar="DEBITS")
-    it.add_argument("--list", action="store_true")
-    for name in ("account", "sum", "number"):
-        it.add_argument(name, nargs="?", metavar=name.upper())
-    return it
+    return program.add(add_files(program.parser(__doc__)), "--host A.B.C.D --port PORT "
+                       "--file DEBITS --list [ACCOUNT] [SUM] [NUMBER]", host=host, port=port)
 
 
 def add_files(it):
     """The options of a debit that name files."""
-    program.options(it, "FILE", config=site.CONFIG, secret_file=site.BOOKS_SECRET,
-                    journal=debits.FILE)
-    program.options(it, "BOOK", db=site.BOOK)
+    return program.add(it, "--config FILE --secret-file FILE --journal FILE --db BOOK",
+                       config=site.CONFIG, secret_file=site.BOOKS_SECRET, journal=debits.FILE,
+                       db=site.BOOK)
 
 
 def add_to(it):
     """The options of a debit, for a command that gives some beside sales."""
-    add_files(it)
-    it.add_argument("--debit-port", type=int, metavar="PORT")
+    program.add(add_files(it), "--debit-port PORT", debit_port=int)
 
 
 def words_of(words=None):

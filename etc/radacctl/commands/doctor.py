@@ -37,11 +37,8 @@ SIDES = {
 
 
 def parser():
-    it = program.parser(__doc__)
+    it = program.parser(__doc__, "--quiet --counts FILE --list")
     it.add_argument("--only", nargs="+", metavar="NAME", choices=sorted(faults.MEANINGS))
-    it.add_argument("--quiet", action="store_true")
-    it.add_argument("--counts", metavar="FILE")
-    it.add_argument("--list", action="store_true")
     return it
 
 

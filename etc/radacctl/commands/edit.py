@@ -392,12 +392,8 @@ def tell(lines):
 
 
 def parser():
-    it = program.parser(__doc__)
-    it.add_argument("--config", default=site.CONFIG, metavar="FILE")
-    it.add_argument("--db", default=site.BOOK, metavar="BOOK")
-    it.add_argument("--log", metavar="FILE")
-    it.add_argument("--wait", type=int, default=10, metavar="SECONDS")
-    return it
+    return program.parser(__doc__, "--config FILE --db BOOK --log FILE --wait SECONDS",
+                          config=site.CONFIG, db=site.BOOK, wait=10)
 
 
 def main(words):

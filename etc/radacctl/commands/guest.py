@@ -389,19 +389,11 @@ def show(words):
 
 
 def parser():
-    it = program.parser(__doc__)
-    program.options(it, "FILE", config=site.CONFIG)
+    it = program.parser(__doc__, "--config FILE", config=site.CONFIG)
     sells.add_desk(it, 60)
-    program.options(it, "URL", url=None)
-    program.options(it, "SECONDS", wait=10)
-    acts = it.add_subparsers(dest="act", required=True, metavar="new | end | list | mend")
-    act = acts.add_parser("new")
-    act.add_argument("name", metavar="NAME")
-    act.add_argument("package", metavar="PACKAGE")
-    act.add_argument("--card", metavar="FILE")
-    acts.add_parser("end").add_argument("account", metavar="ACCOUNT")
-    acts.add_parser("list").add_argument("text", nargs="?", default="", metavar="TEXT")
-    acts.add_parser("mend")
+    program.add(it, "--url URL --wait SECONDS", wait=10)
+    program.acts(it, {"new": "NAME PACKAGE --card FILE", "end": "ACCOUNT", "list": "[TEXT]",
+                      "mend": ""}, text="")
     return it
 
 

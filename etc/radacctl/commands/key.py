@@ -142,21 +142,11 @@ def show(words):
 
 
 def parser():
-    it = program.parser(__doc__)
-    it.add_argument("--config", default=site.CONFIG)
-    for name in ("db", "log", "url"):
-        it.add_argument(f"--{name}")
-    it.add_argument("--wait", type=int, default=10)
-    it.add_argument("--prefix", default="")
-    acts = it.add_subparsers(dest="act", required=True, metavar="new | revoke | expire | list")
-    act = acts.add_parser("new")
-    act.add_argument("account")
-    act.add_argument("--days", type=int)
-    act.add_argument("--card", metavar="FILE")
-    act.add_argument("--again", action="store_true")
-    acts.add_parser("revoke").add_argument("account", metavar="ACCOUNT | KEY")
-    acts.add_parser("expire")
-    acts.add_parser("list")
+    it = program.parser(__doc__, "--config CONFIG --db DB --log LOG --url URL --wait WAIT "
+                        "--prefix PREFIX", config=site.CONFIG, wait=10, prefix="")
+    acts = program.acts(it, {"new": "account --days DAYS --card FILE --again", "revoke": "",
+                             "expire": "", "list": ""}, days=int)
+    acts["revoke"].add_argument("account", metavar="ACCOUNT | KEY")
     return it
 
 

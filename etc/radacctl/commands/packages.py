@@ -422,29 +422,15 @@ def uses_made():
 
 def parser():
     it = program.parser(__doc__)
-    acts = it.add_subparsers(dest="act", required=True,
-                             metavar="list | print | sell | withdraw | make | mend | tick")
-    acts.add_parser("list").add_argument("sheet", nargs="?", metavar="SHEET")
-    act = acts.add_parser("print")
-    act.add_argument("package", metavar="PACKAGE")
-    act.add_argument("--count", type=int, required=True)
-    act.add_argument("--to", default=".", metavar="FOLDER")
-    act.add_argument("--link", metavar="URL")
-    act.add_argument("--name")
-    act = acts.add_parser("sell")
-    act.add_argument("what", nargs="+", metavar="WHAT")
-    sells.add_desk(act, 60)
-    act = acts.add_parser("withdraw")
-    act.add_argument("what", nargs="+", metavar="WHAT")
-    act.add_argument("--unsold", action="store_true")
-    act.add_argument("--yes", action="store_true")
-    acts.add_parser("make")
-    acts.add_parser("mend")
-    act = acts.add_parser("tick")
-    program.options(act, "SECONDS", steady=lapses.STEADY, wait=10)
-    program.options(act, "FILE", mirror=lapses.MIRROR, lock=LOCK)
-    debit.add_to(act)
-    sells.add_desk(act, 5)
+    acts = program.acts(it, {
+        "list": "[SHEET]", "print": "PACKAGE --to FOLDER --link URL --name NAME", "sell": "WHAT..",
+        "withdraw": "WHAT.. --unsold --yes", "make": "", "mend": "",
+        "tick": "--steady SECONDS --wait SECONDS --mirror FILE --lock FILE",
+    }, to=".", steady=lapses.STEADY, wait=10, mirror=lapses.MIRROR, lock=LOCK)  # fmt: skip
+    acts["print"].add_argument("--count", type=int, required=True)
+    debit.add_to(acts["tick"])
+    for act, give_up in (("sell", 60), ("tick", 5)):
+        sells.add_desk(acts[act], give_up)
     return it
 
 

@@ -25,10 +25,8 @@ SETTINGS = {"name": "", "url": "", "currency": "", "decimals": 2, "time_classes"
 
 
 def parser():
-    it = program.parser(__doc__)
-    it.add_argument("--plans", default=site.PLANS_JSON, metavar="FILE")
-    it.add_argument("--to", default="/etc/radacctd-web", metavar="FOLDER")
-    return it
+    return program.parser(__doc__, "--plans FILE --to FOLDER", plans=site.PLANS_JSON,
+                          to="/etc/radacctd-web")
 
 
 def main(words):

@@ -274,13 +274,12 @@ def period_of(parser, words):
 
 
 def parser():
-    it = program.parser(__doc__)
-    program.options(it, "FOLDER", folder=f"{site.BACKUPS}/exports", csv=None)
-    program.options(it, "N", top=20)
-    program.options(it, "CLASS", debit_class="debit")
-    program.options(it, "FILE", settings=moneys.SETTINGS, sales=sales_log.FILE)
+    it = program.parser(
+        __doc__, "--folder FOLDER --csv FOLDER --top N --debit-class CLASS --settings FILE "
+        "--sales FILE", folder=f"{site.BACKUPS}/exports", top=20, debit_class="debit",
+        settings=moneys.SETTINGS, sales=sales_log.FILE)
     it.add_argument("what", choices=["day", "month"])
-    it.add_argument("date", nargs="?")
+    program.add(it, "[date]")
     return it
 
 

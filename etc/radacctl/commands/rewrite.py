@@ -339,10 +339,8 @@ def megabytes(octets):
 
 
 def parser():
-    it = program.parser(__doc__)
-    it.add_argument("--config", default=site.CONFIG, metavar="FILE")
+    it = program.parser(__doc__, "--config FILE BOOK", config=site.CONFIG)
     it.add_argument("--page-sums", action=argparse.BooleanOptionalAction)
-    it.add_argument("book", metavar="BOOK")
     return it
 
 

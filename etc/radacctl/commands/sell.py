@@ -343,11 +343,9 @@ def day(text):
 
 def add_desk(it, give_up):
     """The options of a sale."""
-    program.options(it, "FILE", key_file=desks.CASHIER_KEY)
     host, port = desks.usual()
-    program.options(it, "A.B.C.D", host=host)
-    program.options(it, "PORT", port=port)
-    program.options(it, "SECONDS", give_up=give_up)
+    program.add(it, "--key-file FILE --host A.B.C.D --port PORT --give-up SECONDS",
+                key_file=desks.CASHIER_KEY, host=host, port=port, give_up=give_up)
 
 
 def key_of(words):
@@ -364,10 +362,8 @@ def parser():
     it = program.parser(__doc__)
     add_desk(it, 600)
     it.add_argument("--in-flight", type=int, default=4, choices=range(1, 17), metavar="N")
-    program.options(it, "FILE", known=None, sales=sales_log.FILE, but=None)
-    it.add_argument("--dry-run", action="store_true")
-    it.add_argument("--logged", action="store_true")
-    it.add_argument("--since", type=day, metavar="YYYY-MM-DD")
+    program.add(it, "--known FILE --sales FILE --but FILE --dry-run --logged --since YYYY-MM-DD",
+                sales=sales_log.FILE, since=day)
     return it
 
 

@@ -87,11 +87,7 @@ STOPPED = "stopped; give the same again: it goes on"
 
 
 def parser():
-    it = program.parser(__doc__)
-    for name in ("--dry-run", "--yes", "--new-book", "--sample", "--remove"):
-        it.add_argument(name, action="store_true")
-    it.add_argument("file", nargs="?", metavar="FILE")
-    return it
+    return program.parser(__doc__, "--dry-run --yes --new-book --sample --remove [FILE]")
 
 
 def packages_of(wanted):

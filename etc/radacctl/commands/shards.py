@@ -241,30 +241,23 @@ def join(words, _table):
 
 
 def parser():
-    top = program.parser(__doc__)
-    program.options(top, "FILE", table=books.TABLE)
-    program.options(top, "FOLDER", balances="/var/lib/radacctd-balances",
-                    counts="/var/lib/radacctd-counts")
-    acts = top.add_subparsers(dest="act", required=True, metavar="ACT")
-    acts.add_parser("of").add_argument("account", nargs="*")
-    acts.add_parser("on").add_argument("address")
-    it = acts.add_parser("each")
-    it.add_argument("address")
-    it.add_argument("option", nargs=argparse.REMAINDER)
+    top = program.parser(__doc__, "--table FILE --balances FOLDER --counts FOLDER",
+                         table=books.TABLE, balances="/var/lib/radacctd-balances",
+                         counts="/var/lib/radacctd-counts")
+    acts = program.acts(top, {
+        "of": "", "on": "address", "each": "address", "for": "", "debit": "", "key": "",
+        "sell": None,
+        "defaults": "", "freeradius": "", "nginx": "", "join": "[seconds]",
+        "check": "--oldest SECONDS",
+    }, "ACT", seconds=float, oldest=60.0)  # fmt: skip
+    acts["of"].add_argument("account", nargs="*")
+    acts["key"].add_argument("what", choices=("new", "revoke"))
     for name in ("for", "debit", "key"):
-        it = acts.add_parser(name)
-        if name == "key":
-            it.add_argument("what", choices=("new", "revoke"))
-        it.add_argument("account")
-        it.add_argument("option", nargs=argparse.REMAINDER)
-    acts.add_parser("sell", add_help=False, allow_abbrev=False)
-    acts.add_parser("defaults").add_argument("book", choices=books.SHARDS)
-    acts.add_parser("freeradius")
-    acts.add_parser("nginx")
-    acts.add_parser("join").add_argument("seconds", nargs="?", type=float)
-    it = acts.add_parser("check")
-    it.add_argument("--topups", nargs="+", metavar="FILE")
-    it.add_argument("--oldest", type=float, default=60, metavar="SECONDS")
+        acts[name].add_argument("account")
+    for name in ("each", "for", "debit", "key"):
+        acts[name].add_argument("option", nargs=argparse.REMAINDER)
+    acts["defaults"].add_argument("book", choices=books.SHARDS)
+    acts["check"].add_argument("--topups", nargs="+", metavar="FILE")
     return top
 
 

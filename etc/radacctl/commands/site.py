@@ -253,12 +253,8 @@ def show_plans(words):
 
 def parser():
     it = program.parser(__doc__)
-    acts = it.add_subparsers(dest="act", required=True, metavar="ACT")
-    for name in ("save", "test", "packages", "units", "restore"):
-        acts.add_parser(name).add_argument("file", metavar="FILE")
-    act = acts.add_parser("plans")
-    act.add_argument("book", metavar="BOOK")
-    act.add_argument("config", nargs="?", metavar="CONFIG")
+    program.acts(it, {**dict.fromkeys(("save", "test", "packages", "units", "restore"), "FILE"),
+                      "plans": "BOOK [CONFIG]"}, "ACT")
     return it
 
 

@@ -297,14 +297,9 @@ def show(words, money):
 
 
 def parser():
-    it = program.parser(__doc__)
-    program.options(it, "FILE", stock=STOCK, second=None, settings=moneys.SETTINGS, topups=None)
-    it.add_argument("--yes", action="store_true")
-    it.add_argument("--count", type=int)
-    it.add_argument("--sum")
-    it.add_argument("--to", default=".", metavar="FOLDER")
-    it.add_argument("--url")
-    it.add_argument("--name")
+    it = program.parser(__doc__, "--stock FILE --second FILE --settings FILE --topups FILE --yes "
+                        "--count COUNT --sum SUM --to FOLDER --url URL --name NAME", stock=STOCK,
+                        settings=moneys.SETTINGS, count=int, to=".")
     it.add_argument("--list", nargs="?", const="", metavar="SHEET")
     it.add_argument("--withdraw", nargs="+", metavar="WHAT")
     return it
