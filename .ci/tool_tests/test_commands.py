@@ -17,7 +17,7 @@ import unittest
 from unittest import mock
 
 from radacctl import configuration, debits, desk, files, keys, main, names, sales_log
-from radacctl import shards as books, site, stock
+from radacctl import program, shards as books, site, stock
 from radacctl.commands import allow, debit, guest, key, packages, redeem, sell, voucher
 from tool_tests import ROOT, Folder
 
@@ -423,7 +423,7 @@ class Redeem(Folder):
                 mock.patch.object(redeem, "FOLDER", self.folder):
             it.key = "k"
             where = "{}:{}".format(*desks.getsockname())
-            with self.assertRaises(redeem.Away) as found:
+            with self.assertRaises(program.Failed) as found:
                 it.credit(where, 5)
         self.assertRegex(str(found.exception), "given.csv: Input/output error")
 

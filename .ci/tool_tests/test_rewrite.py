@@ -11,6 +11,7 @@ from unittest import mock
 
 from tool_tests import Folder
 
+from radacctl import program
 from radacctl.commands import rewrite
 
 
@@ -25,7 +26,7 @@ class Signals(Folder):
         it.program, it.config = self.path, "/none"
         threading.Timer(0.5, os.kill, (os.getpid(), signal.SIGTERM)).start()
         begun = time.monotonic()
-        self.assertRaises(rewrite.Refused, it.export, "sessions", "/none")
+        self.assertRaises(program.Failed, it.export, "sessions", "/none")
         self.assertLess(time.monotonic() - begun, 30)
 
 
@@ -40,7 +41,7 @@ class Place(Folder):
         it.digest, it.is_placed = rewrite.digest_of(self.path), False
         with open(self.path, "rb+") as held:
             rewrite.lock(held)
-            with self.assertRaisesRegex(rewrite.Refused, "a process has opened .* meanwhile"):
+            with self.assertRaisesRegex(program.Failed, "a process has opened .* meanwhile"):
                 it.place()
         with mock.patch.object(rewrite.time, "sleep"):
             it.place()

@@ -6,7 +6,7 @@ import re
 import shutil
 import unittest
 
-from radacctl import sheets
+from radacctl import program, sheets
 
 HAS_ALL = importlib.util.find_spec("reportlab") and shutil.which("qrencode")
 URL = "https://accounts.example.org/redeem/"
@@ -39,7 +39,7 @@ class Sheets(unittest.TestCase):
 
     def test_joined_letters_are_refused(self):
         for name in ("مرحبا", "שלום", "a\u0301"):
-            self.assertRaisesRegex(sheets.Fault, "give another --name", sheet, 1, name)
+            self.assertRaisesRegex(program.Failed, "give another --name", sheet, 1, name)
 
     @unittest.skipUnless(os.path.exists(sheets.OTHERS["DejaVu"][0]), "no DejaVu")
     def test_polish_letters_are_drawn(self):

@@ -20,7 +20,7 @@ import tempfile
 import time
 import zlib
 
-from radacctl.files import FOLDER, opened_folder as opened, regular
+from radacctl.files import FOLDER, handle_of, opened_folder as opened, regular
 from radacctl.program import Failed
 
 SUMMARY = "radacctd-site.json"
@@ -158,14 +158,11 @@ class Archive:
         # A socket or a pipe has no content.
 
     def add_folder(self, folder, name, path):
-        inner = os.open(name, FOLDER, dir_fd=folder)
-        try:
+        with handle_of(name, FOLDER, folder) as inner:
             for it in sorted(os.listdir(inner)):
                 # A file may vanish meanwhile, as one that was filed.
                 with contextlib.suppress(FileNotFoundError):
                     self.add_name(inner, it, f"{path}/{it}")
-        finally:
-            os.close(inner)
 
     def add_file(self, folder, name, path):
         if name.endswith((".db-wal", ".db-shm", ".db-journal")):
@@ -211,7 +208,9 @@ def test_archive(path):
     found, summary = {}, None
     with tarfile.open(path, "r:gz") as tar:
         for it in tar:
-            test_head(path, it)
+            is_known = it.isreg() or it.isdir() or it.issym()
+            if not is_known or not {"", ".", ".."}.isdisjoint(it.name.split("/")):
+                raise Failed(f"{path} has {ascii(it.name)}, which `save` did not write")
             if it.name == SUMMARY:
                 summary = json.loads(tar.extractfile(it).read())
             elif it.isreg():
@@ -225,13 +224,6 @@ def test_archive(path):
     if summary is None or found != summary["digests"]:
         raise Failed(f"{path} is damaged: it is cut, or a file has another digest")
     return summary
-
-
-def test_head(path, it):
-    """Ends if a member of an archive is none that `save` writes."""
-    is_known = it.isreg() or it.isdir() or it.issym()
-    if not is_known or not {"", ".", ".."}.isdisjoint(it.name.split("/")):
-        raise Failed(f"{path} has {ascii(it.name)}, which `save` did not write")
 
 
 def digest_of(file):
@@ -372,16 +364,12 @@ def move(source, name, target, new):
         if fault.errno != errno.EXDEV:
             raise
     os.mkdir(new, 0o700, dir_fd=target)
-    inner, outer = os.open(name, FOLDER, dir_fd=source), os.open(new, FOLDER, dir_fd=target)
-    try:
+    with handle_of(name, FOLDER, source) as inner, handle_of(new, FOLDER, target) as outer:
         for it in os.listdir(inner):
             move(inner, it, outer, it)
         status = os.fstat(inner)
         os.fchown(outer, status.st_uid, status.st_gid)
         os.fchmod(outer, stat.S_IMODE(status.st_mode))
-    finally:
-        os.close(inner)
-        os.close(outer)
     os.rmdir(name, dir_fd=source)
 
 

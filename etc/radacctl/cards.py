@@ -3,7 +3,8 @@
 import re
 
 from radacctl import money
-from radacctl.sheets import Fault, qrencoded
+from radacctl.program import Failed
+from radacctl.sheets import qrencoded
 
 PAGE = """<!doctype html>
 <html lang="en">
@@ -39,7 +40,7 @@ def address(given):
     """The address of the guest's page: what was given, or what the settings have, be it empty."""
     url = (given or settings()["url"]).rstrip("/")
     if url and not ADDRESS.fullmatch(url):
-        raise Fault("--url is as https://accounts.example.org")
+        raise Failed("--url is as https://accounts.example.org")
     return url
 
 

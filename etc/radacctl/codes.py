@@ -4,7 +4,7 @@ import os
 import time
 
 from radacctl import files, names, sheets, site, stock
-from radacctl.program import fail, told
+from radacctl.program import fail, told, until
 
 # What the codes of a sheet give and cost: root's, since FreeRADIUS' user writes the database.
 LOG, LOG_HEADER = f"{site.BOOKS}/sheets.csv", b"moment,sheet,package,credit,price\n"
@@ -46,13 +46,9 @@ def sold():
 
 def are_written(moment, path):
     """Waits until the balances were written since a moment: what was sold before it is in them."""
-    end = time.monotonic() + WRITTEN
     # Those of a time to come were written before it, by a clock that was ahead.
-    while not os.path.exists(path) or not moment <= os.stat(path).st_mtime <= time.time():
-        if time.monotonic() > end:
-            return False
-        time.sleep(0.2)
-    return True
+    return until(lambda: os.path.exists(path)
+                 and moment <= os.stat(path).st_mtime <= time.time(), WRITTEN)
 
 
 def await_balances(moment, path=None):

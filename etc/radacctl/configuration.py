@@ -5,11 +5,10 @@ import contextlib
 import os
 import stat
 import subprocess
-import time
 import tomllib
 
 from radacctl import files, keys, site
-from radacctl.program import fail, told
+from radacctl.program import fail, told, until
 
 # What follows the name of the configuration in the name of a file that is to take its place. A run
 # that was killed may leave one: the next run makes it anew.
@@ -32,12 +31,9 @@ def locked(path, ending=LOCK, patience=PATIENCE, fault=""):
     is_held = False
     while not is_held:
         # Others that change the file take their turns meanwhile, and none of them takes a minute.
-        end = time.monotonic() + patience
         file = open_lock(path + ending)
-        while not files.is_locked(file):
-            if time.monotonic() > end:
-                fail(fault or f"another program has {path} locked: try again", 3)
-            time.sleep(0.02)
+        if not until(lambda: files.is_locked(file), patience, 0.02):
+            fail(fault or f"another program has {path} locked: try again", 3)
         # One that another run has removed meanwhile counts for nothing.
         with contextlib.suppress(FileNotFoundError):
             is_held = os.path.samestat(os.fstat(file.fileno()), os.lstat(path + ending))

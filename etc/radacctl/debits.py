@@ -55,10 +55,8 @@ class NoAnswer(program.Failed):
 
 def secret_of(path):
     """The secret of a file; a line end behind it is no part."""
-    try:
+    with program.told(Refused, "", desk.WrongKey):
         return desk.secret_in(path).rstrip(b"\r\n")
-    except desk.WrongKey as why:
-        raise Refused(why) from None
 
 
 def client_of(config, path, secret):

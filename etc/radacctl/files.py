@@ -28,13 +28,20 @@ print(json.dumps(rows.fetchall(), default=lambda it: {"hex": it.hex()}))
 """
 
 
-def sync_folder(path):
-    """Lets names that were made or changed in a folder outlive a power cut."""
-    handle = os.open(path or ".", os.O_RDONLY | os.O_DIRECTORY | os.O_CLOEXEC)
+@contextlib.contextmanager
+def handle_of(path, flags=os.O_RDONLY | os.O_DIRECTORY, folder=None):
+    """The handle of a file or a folder, which is open meanwhile."""
+    handle = os.open(path, flags | os.O_CLOEXEC, dir_fd=folder)
     try:
-        os.fsync(handle)
+        yield handle
     finally:
         os.close(handle)
+
+
+def sync_folder(path):
+    """Lets names that were made or changed in a folder outlive a power cut."""
+    with handle_of(path or ".") as handle:
+        os.fsync(handle)
 
 
 def remove(path, folder=None):
@@ -259,19 +266,13 @@ def text(path):
     except OSError as why:
         if why.errno not in (errno.ELOOP, errno.ENOTDIR):
             raise OSError(f"{path}: {why.strerror}") from None
-        octets = behind_links(path)
+        octets, why = read_as_owner(path, 30, "head", "-c", str(LARGEST + 1), "--", path)
+        if why and why not in ("No such file or directory", "Not a directory"):
+            raise OSError(f"{path}: {why}") from None
     if len(octets) > LARGEST:
         # Half of the balances, say, would pass for all of them.
         raise OSError(f"{path} has more than {LARGEST} octets")
     return octets.decode("utf-8", "replace")
-
-
-def behind_links(path):
-    """The octets of a file on whose path links are; none if there is none."""
-    octets, why = read_as_owner(path, 30, "head", "-c", str(LARGEST + 1), "--", path)
-    if why and why not in ("No such file or directory", "Not a directory"):
-        raise OSError(f"{path}: {why}")
-    return octets
 
 
 def read_as_owner(path, seconds, *words):
@@ -317,11 +318,6 @@ def rows(path, query, *values, is_still=False):
     if why:
         raise OSError(f"{path}: {why}")
     return [tuple(row) for row in json.loads(octets, object_hook=unhexed)]
-
-
-def hexed(octets):
-    """What JSON has of octets, and what it had."""
-    return {"hex": octets.hex()}
 
 
 def unhexed(found):

@@ -120,17 +120,14 @@ def guests(text):
     return [it for it in tables(text) if is_guests(it.members)]
 
 
-def by_token(text):
-    return {it.members.get("token"): it for it in tables(text)}
-
-
 def merged(base, now, copy, path):
     """Gives a copy the changes that the keys of a configuration had since an earlier text of it.
 
     The copy as it then is, and whether no more than keys differs between both texts. Without the
     earlier text a key that this tool made is as the configuration has it.
     """
-    has, had, known = map(by_token, (now, base, copy))
+    has, had, known = ({it.members.get("token"): it for it in tables(text)}
+                       for text in (now, base, copy))
     if base:
         ended = set(had) - set(has)
         more = [it for token, it in has.items() if token not in had and token not in known]

@@ -191,7 +191,8 @@ class Store:
         asked = {"path": os.path.abspath(self.path), "patience": self.patience, "make": make,
                  "writes": writes, "statements": statements}
         self.child = self.child or Child(self.path)
-        line = self.child.ask(json.dumps(asked, default=files.hexed), self.patience + 60)
+        line = json.dumps(asked, default=lambda octets: {"hex": octets.hex()})
+        line = self.child.ask(line, self.patience + 60)
         if not line:
             self.child = None
             raise Fault(f"{self.path}: its user's process ended, or did not answer in time")

@@ -123,7 +123,9 @@ def need_members(found, known, where):
 
 def speed_and_replies(found, where):
     """The speed, and all attributes that tell access servers of it."""
-    down, up = (speed_of(found, it, where) for it in ("down", "up"))
+    down, up = found.get("down"), found.get("up")
+    for name, speed in (("down", down), ("up", up)):
+        need(speed is None or 1 <= speed <= FASTEST, f"{where}: {name} is 1 to {FASTEST} kbit/s")
     need((down is None) == (up is None), f"{where}: give down and up, or neither")
     return down, up, [*speeds(down, up), *replies_of(found.get("reply", {}), where)]
 
@@ -160,12 +162,6 @@ def validity_of(found, where):
     begins = found.get("from", FIRST)
     need(begins in (FIRST, SALE), f"{where}: from is \"{FIRST}\" or \"{SALE}\"")
     return begins, seconds, None
-
-
-def speed_of(found, name, where):
-    speed = found.get(name)
-    need(speed is None or 1 <= speed <= FASTEST, f"{where}: {name} is 1 to {FASTEST} kbit/s")
-    return speed
 
 
 def speeds(down, up):

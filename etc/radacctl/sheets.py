@@ -13,7 +13,7 @@ import subprocess
 import sys
 import unicodedata
 
-from radacctl import program
+from radacctl.program import Failed
 
 # Of a sheet, in points: 3 by 8 vouchers of 180 by 98 on A4, with so much for a text.
 LEFT, TOP = 27, 812
@@ -26,17 +26,13 @@ OTHERS = {
 }
 
 
-class Fault(program.Failed):
-    """Why there is no sheet, or no card."""
-
-
 def qrencoded(text, *words):
     """What qrencode draws. It reads the text, so that no list of processes has it."""
     try:
         return subprocess.run(["qrencode", *words, "-o", "-"], input=text, capture_output=True,
                               text=True, check=True).stdout
     except (OSError, subprocess.CalledProcessError):
-        raise Fault("a QR code needs qrencode: apt install qrencode") from None
+        raise Failed("a QR code needs qrencode: apt install qrencode") from None
 
 
 def bars(text):
@@ -81,11 +77,11 @@ class Fonts:
 
     def of(self, letter, text):
         if unicodedata.bidirectional(letter) in ("R", "AL") or unicodedata.combining(letter):
-            raise Fault(f"{letter!r} of `{text}` cannot be drawn by itself: give another --name")
+            raise Failed(f"{letter!r} of `{text}` cannot be drawn by itself: give another --name")
         name = next((it for it, letters in self.known.items() if ord(letter) in letters), None)
         if name is None:
             more = f", or apt install {' '.join(self.missing)}" if self.missing else ""
-            raise Fault(f"no font has {letter!r} of `{text}`: give another --name{more}")
+            raise Failed(f"no font has {letter!r} of `{text}`: give another --name{more}")
         return name
 
 
@@ -140,7 +136,7 @@ def sheet(title, vouchers):
         from reportlab.lib.pagesizes import A4
         from reportlab.pdfgen.canvas import Canvas
     except ImportError:
-        raise Fault("a sheet needs reportlab: apt install python3-reportlab") from None
+        raise Failed("a sheet needs reportlab: apt install python3-reportlab") from None
     file, fonts, each = io.BytesIO(), Fonts(), COLUMNS * ROWS
     # The same codes give the same file: no date, and no number by chance.
     canvas = Canvas(file, pagesize=A4, pageCompression=1, invariant=1)

@@ -29,7 +29,9 @@ def on(now):
     known = {account: (name or "", package) for account, name, package in sold.store().read(
         "SELECT account, json_extract(notes, '$.name'), package.name FROM login "
         "JOIN package ON package.id = login.package")}
-    servers, cut = servers_by_address(), lapses.cut_servers()
+    # Only an access server of one address has its name.
+    servers, cut = {freeradius.value(block, "ip(?:v[46])?addr"): name
+                    for name, block in freeradius.access_servers()}, lapses.cut_servers()
     for account, station, source, session, heard in rows:
         name, package = known.get(account, ("", ""))
         yield {"account": names.for_desk(account), "name": name, "package": package,
@@ -37,17 +39,23 @@ def on(now):
                "session": session, "heard": heard, "cut": source in cut}
 
 
-def servers_by_address():
-    """The name of each access server that has one address."""
-    return {freeradius.value(block, "ip(?:v[46])?addr"): name
-            for name, block in freeradius.access_servers()}
-
-
 def all_sales():
     """Each sale: day, number, cashier and package; then 1, what it put on the account, what was paid,
     and 0. Of one without an answer it is 0 three times, and 1.
     """
-    return [*at_desks(), *of_guests()]
+    # Nginx' log has those that a book may have, and the journal the guests that were made at a desk.
+    for it in sales_log.by_number(sales_log.sales_of(sales_log.FILE)).values():
+        sums = (1, it.sum, it.paid, 0) if it.status in sales_log.TAKEN else (0, 0, 0, 1)
+        yield it.day, it.number, it.cashier, it.package, *sums
+    packages = {account: found for account, *found in sold.store().read(
+        "SELECT account, package.name, json_extract(terms, '$.credit'), "
+        "json_extract(terms, '$.price') FROM login JOIN package ON package.id = login.package "
+        "WHERE digest IS NULL AND state <> 'making'")}
+    for line in journal.last_of("guest").values():
+        if found := packages.get(names.octets_of(line.account)):
+            package, *sums = found
+            cashier = sales_log.spelled(line.cashier)
+            yield day_of(line.moment), line.number, cashier, package, 1, *sums, 0
 
 
 def sales(begin, end):
@@ -65,27 +73,6 @@ def sales(begin, end):
     return [dict(zip(columns, (*key, *row))) for key, row in sorted(rows.items(), reverse=True)]
 
 
-def at_desks():
-    """Each sale of nginx' log that a book may have, once."""
-    for it in sales_log.by_number(sales_log.sales_of(sales_log.FILE)).values():
-        sums = (1, it.sum, it.paid, 0) if it.status in sales_log.TAKEN else (0, 0, 0, 1)
-        yield it.day, it.number, it.cashier, it.package, *sums
-
-
-def of_guests():
-    """Each guest that was made at a desk."""
-    packages = {account: found for account, *found in sold.store().read(
-        "SELECT account, package.name, json_extract(terms, '$.credit'), "
-        "json_extract(terms, '$.price') FROM login JOIN package ON package.id = login.package "
-        "WHERE digest IS NULL AND state <> 'making'")}
-    for line in journal.last_of("guest").values():
-        found = packages.get(names.octets_of(line.account))
-        if found:
-            package, *sums = found
-            cashier = sales_log.spelled(line.cashier)
-            yield day_of(line.moment), line.number, cashier, package, 1, *sums, 0
-
-
 def day_of(moment):
     return time.strftime("%Y-%m-%d", time.localtime(moment))
 
@@ -100,17 +87,14 @@ def corrections(begin, end):
     # What was killed behind its debit has no end in the journal.
     begun = {number: it.cashier for number, it in last.items() if it.state == journal.BEGUN}
     rows = [(it.moment, it.cashier, it.number, it.account, it.what) for it in made.values()]
-    for moment, event, number, account, total in debits():
-        if event == books.GIVEN and number not in made and not number.startswith("LAPSE-"):
+    # The journal of debits is read without its lock: a line is whole or not.
+    for moment, event, number, account, total in stock.rows_in(books.FILE, books.HEADER):
+        is_by_hand = number not in made and not number.startswith("LAPSE-")
+        if moment.isdigit() and event == books.GIVEN and is_by_hand:
             rows.append((int(moment), begun.get(number, ""), number, account, total))
     return [dict(zip(("moment", "cashier", "number", "account", "sum", "paid"),
                      (*it, paid.get(it[2]))))
             for it in sorted(rows, reverse=True) if begin <= day_of(it[0]) <= end]
-
-
-def debits():
-    """The rows of the journal of debits, which is read without its lock: a line is whole or not."""
-    return [row for row in stock.rows_in(books.FILE, books.HEADER) if row[0].isdigit()]
 
 
 def codes():

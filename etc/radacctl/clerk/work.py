@@ -64,7 +64,10 @@ def answer_to(who, asked, now, later):
 def listed(asked, now):
     """What only reads."""
     acts = {
-        "find": lambda: {"guests": found_guests(asked["text"])},
+        # The last guests of a text, each with what a cashier needs.
+        "find": lambda: {"guests": [
+            dict(zip(("account", "name", "package", "state", "first", "ends"), it))
+            for it in [*guest.found(sold.store(), asked["text"])][-MOST_FOUND:]]},
         "on": lambda: {"sessions": list(lists.on(now))},
         "codes": lambda: {"codes": lists.codes()},
         "doctor": lists.doctor,
@@ -73,12 +76,6 @@ def listed(asked, now):
                           "corrections": lists.corrections(asked["begin"], asked["end"])},
     }
     return acts[asked["act"]]()
-
-
-def found_guests(text):
-    """The last guests of a text, each with what a cashier needs."""
-    rows = list(guest.found(sold.store(), text))[-MOST_FOUND:]
-    return [dict(zip(("account", "name", "package", "state", "first", "ends"), it)) for it in rows]
 
 
 class Act:
@@ -323,7 +320,7 @@ def code_of(text):
     """A QR code as a picture, or none: without a code the card is good all the same."""
     try:
         return cards.svg(text, margin=4)
-    except cards.Fault as why:
+    except program.Failed as why:
         program.say(why)
         return ""
 

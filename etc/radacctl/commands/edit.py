@@ -207,9 +207,8 @@ class Edit:
 
     def give_path(self, path):
         """An editor that renames makes a new file with rights of its own."""
-        handle = os.open(path, os.O_RDONLY | os.O_NOFOLLOW)
-        self.give(handle)
-        os.close(handle)
+        with files.handle_of(path, os.O_RDONLY | os.O_NOFOLLOW) as handle:
+            self.give(handle)
 
     def put(self, path, octets):
         """Puts a file into place with the rights of the configuration, on the disk."""
@@ -362,12 +361,8 @@ class Edit:
 
     def wait(self, journal):
         """Waits for the server's line, and prints it: the status of this tool."""
-        end = time.monotonic() + self.words.wait
-        while not (line := LINE.search(journal.text())):
-            if time.monotonic() > end:
-                fail(f"the server has said nothing in {self.words.wait} seconds: see its journal",
-                     4)
-            time.sleep(0.2)
+        line = program.until(lambda: LINE.search(journal.text()), self.words.wait) or fail(
+            f"the server has said nothing in {self.words.wait} seconds: see its journal", 4)
         print(line[0])
         if line[0].endswith("; the plans stay"):
             say("its clients and keys are in force, and its plans are not")

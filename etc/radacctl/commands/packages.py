@@ -367,21 +367,18 @@ def tick(words):
     long = lapses.steady(logins_store)
     lapse = lapses.Lapse(logins_store, use_store, debit.words_of(words), logins.LOG, words.mirror)
     lapses.disconnect(logins_store, use_store, now, lapse.wait)
-    return max(went_wrong(lambda: mend_guests(logins_store, words)),
-               went_wrong(lambda: take_what_is_left(lapse, now, long, words)))
-
-
-def went_wrong(part):
-    """Does a part of the minute's work: 1 if it failed, which it has said. The others go on."""
-    try:
-        part()
-    except SystemExit:
-        # A command of radacctl said why.
-        return 1
-    except (program.Failed, site.Missing, OSError) as why:
-        say(why)
-        return 1
-    return 0
+    status = 0
+    for part in (lambda: mend_guests(logins_store, words),
+                 lambda: take_what_is_left(lapse, now, long, words)):
+        # One that fails says why, and the other goes on.
+        try:
+            part()
+        except SystemExit:
+            status = 1
+        except (program.Failed, site.Missing, OSError) as why:
+            say(why)
+            status = 1
+    return status
 
 
 def take_what_is_left(lapse, now, long, words):

@@ -59,10 +59,6 @@ class Answered(Exception):
         self.status, self.body = status, body
 
 
-class Away(program.Failed):
-    """Why it cannot be said whether the code is redeemed. It has no code and no key."""
-
-
 def refuse_places():
     """Ends if a request says where a file or a desk is. fcgiwrap hands each variable of a request
     on, and those of its unit, which its own process has.
@@ -73,7 +69,7 @@ def refuse_places():
         own = os.fsdecode(file.read()).split("\0")
     for name in PLACES:
         if name in os.environ and f"{name}={os.environ[name]}" not in own:
-            raise Away(f"a request has {name}, which only the unit may have")
+            raise program.Failed(f"a request has {name}, which only the unit may have")
 
 
 def asked():
@@ -128,7 +124,7 @@ class Redeeming:
                 self.given.note(stocks.GIVEN, self.code, self.account, " ".join(self.desks()))
         except OSError as fault:
             # It is no fault of the desk, which got nothing.
-            raise Away(f"{GIVEN}: {program.reason(fault)}") from None
+            raise program.Failed(f"{GIVEN}: {program.reason(fault)}") from None
         self.is_noted = True
 
     def desks(self):
@@ -157,7 +153,8 @@ class Redeeming:
                                 before=self.begin)
         except OSError as fault:
             why = program.reason(fault)
-            raise Away(f"no answer of the desk {where}: {why}; the same is right") from None
+            raise program.Failed(f"no answer of the desk {where}: {why}; the same is right"
+                                 ) from None
 
     def refused(self, where, found, status, said, taken):
         """Ends at a desk that did not take the code."""
@@ -170,7 +167,7 @@ class Redeeming:
                 program.say(f"ALARM: {where} has a code for another account that "
                             f"{' '.join(sorted(taken))} took: radacctl voucher --list")
             raise Answered(409, error="used")
-        raise Away(f"the desk {where} answered {status}")
+        raise program.Failed(f"the desk {where} answered {status}")
 
 
 def parser():

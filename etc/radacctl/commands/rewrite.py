@@ -68,16 +68,12 @@ SUM_AT, SUM_OCTETS = 20, 8
 LOCK = struct.pack("hhqqi4x", fcntl.F_WRLCK, os.SEEK_SET, 1 << 30, 512, 0)
 
 
-class Refused(Failed):
-    """Why the book stays as it is."""
-
-
 def lock(file):
     """Lets no program open a book until this file of it is closed."""
     try:
         fcntl.fcntl(file, fcntl.F_OFD_SETLK, LOCK)
     except (BlockingIOError, PermissionError):
-        raise Refused(f"a process has opened {file.name} meanwhile") from None
+        raise Failed(f"a process has opened {file.name} meanwhile") from None
 
 
 def digest_of(path):
@@ -96,7 +92,7 @@ def test_log(book):
     with contextlib.suppress(FileNotFoundError):
         size = os.stat(f"{book}-wal").st_size
         if size >= LEAST_LOG:
-            raise Refused(f"the log of {book} still has {size} octets")
+            raise Failed(f"the log of {book} still has {size} octets")
 
 
 def test_tables(opened):
@@ -105,7 +101,7 @@ def test_tables(opened):
     new, old = (opened.execute(text.format(it)).fetchall() for it in (NEW, OLD))
     tables = {row[1] for row in old if row[0] == "table"}
     if old != new or tables != {*FILLED, *COPIED}:
-        raise Refused("the book has other tables than this tool knows")
+        raise Failed("the book has other tables than this tool knows")
 
 
 def copy(opened):
@@ -126,7 +122,7 @@ def compare(opened, table):
     text = f"SELECT * FROM {{}}.{table} ORDER BY {'1' if table in FILLED else 'rowid'}"
     new, old = (opened.execute(text.format(it)) for it in (NEW, OLD))
     if any(one != other for one, other in itertools.zip_longest(new, old)):
-        raise Refused(f"the new file has other rows of {table}")
+        raise Failed(f"the new file has other rows of {table}")
 
 
 class Rewrite:
@@ -144,16 +140,16 @@ class Rewrite:
 
     def begin(self):
         """Tests what is there."""
-        with program.told(Refused, f"{self.book}: "):
+        with program.told(Failed, f"{self.book}: "):
             status = os.stat(self.book)
         if not stat.S_ISREG(status.st_mode):
-            raise Refused(f"{self.book} is no file")
+            raise Failed(f"{self.book} is no file")
         if os.geteuid() != status.st_uid:
-            raise Refused(f"{self.book} is another user's: be root, and let that user own its "
+            raise Failed(f"{self.book} is another user's: be root, and let that user own its "
                                "folder")
         # One rewrite or restore at a time in a folder. The lock ends with this process.
         if not files.is_locked(os.open(self.folder, os.O_RDONLY)):
-            raise Refused(f"another rewrite or a restore is in {self.folder}")
+            raise Failed(f"another rewrite or a restore is in {self.folder}")
         refuse_if_held(self.book)
         self.is_begun = True
         self.remove_new()
@@ -164,7 +160,7 @@ class Rewrite:
             return
         is_own = stat.S_ISDIR(os.lstat(self.new_folder).st_mode)
         if not is_own or not set(os.listdir(self.new_folder)) <= set(PARTS):
-            raise Refused(f"{self.new_folder} is in the way, and no rewrite made it: move it "
+            raise Failed(f"{self.new_folder} is in the way, and no rewrite made it: move it "
                                "away")
         for name in PARTS:
             remove(os.path.join(self.new_folder, name))
@@ -176,7 +172,7 @@ class Rewrite:
         done = subprocess.run(words, capture_output=True, text=True)
         if done.returncode:
             said = done.stderr.strip().replace("\n", "; ") or f"status {done.returncode}"
-            raise Refused(f"`radacctd {name}` says of {book}: {said}")
+            raise Failed(f"`radacctd {name}` says of {book}: {said}")
 
     def export(self, what, book):
         """The digest of an export. Standard error has what the program says."""
@@ -189,14 +185,9 @@ class Rewrite:
                 process.kill()
                 raise
         if process.returncode:
-            raise Refused(f"`radacctd export {what}` of {book}: status {process.returncode}")
+            raise Failed(f"`radacctd export {what}` of {book}: status {process.returncode}")
         return found
 
-    def empty_log(self):
-        """Lets the program copy the log into the file, so that the file alone is the book."""
-        self.command("plans", self.book)
-        test_log(self.book)
-        self.digest = digest_of(self.book)
 
     def fill(self):
         """Copies all rows into the new file, and compares them. SQLite copies the log into the file
@@ -245,10 +236,10 @@ class Rewrite:
         for what in EXPORTS:
             say(f"comparing the export of {what}")
             if self.export(what, self.book) != self.export(what, self.new):
-                raise Refused(f"the new file has another export of {what}")
+                raise Failed(f"the new file has another export of {what}")
         test_log(self.new)
         if has_sums(self.new) != self.has_sums:
-            raise Refused(f"{self.new} is a file of another kind")
+            raise Failed(f"{self.new} is a file of another kind")
 
     def finish(self):
         """Gives the new file what the old one has but its name, and syncs it."""
@@ -267,7 +258,10 @@ class Rewrite:
         """Puts the new file in the place of the old one, which no program can open meanwhile."""
         with open(self.book, "rb+") as old:
             lock(old)
-            self.refuse_if_changed(old)
+            is_same = os.path.samestat(os.fstat(old.fileno()), os.stat(self.book))
+            if not is_same or digest_of(self.book) != self.digest:
+                raise Failed(f"{self.book} was changed meanwhile")
+            test_log(self.book)
             # Its log goes first, so that none can be read with the new file. It has nothing.
             remove(self.book + "-wal")
             sync(self.folder)
@@ -279,17 +273,15 @@ class Rewrite:
             time.sleep(1)
         return sizes
 
-    def refuse_if_changed(self, old):
-        is_same = os.path.samestat(os.fstat(old.fileno()), os.stat(self.book))
-        if not is_same or digest_of(self.book) != self.digest:
-            raise Refused(f"{self.book} was changed meanwhile")
-        test_log(self.book)
 
     def run(self):
         self.begin()
         say("checking the book, which takes as long as a start")
         self.command("check", self.book)
-        self.empty_log()
+        # Once the log is copied into the file, the file alone is the book.
+        self.command("plans", self.book)
+        test_log(self.book)
+        self.digest = digest_of(self.book)
         self.make()
         self.finish()
         for number in (signal.SIGHUP, signal.SIGINT, signal.SIGTERM):
@@ -297,15 +289,20 @@ class Rewrite:
         return self.place()
 
 
+def printed(name, *words):
+    """What a program of radacctd's printed, which must end well."""
+    done = subprocess.run([site.part(name), *words], capture_output=True, text=True)
+    if done.returncode:
+        raise Failed(done.stderr.strip().removeprefix(f"{name}: "))
+    return done.stdout
+
+
 def refuse_if_held(book):
     """The test of a restore."""
     for mode, what in (("--removed", "a removed file or log of it"), ("--all", "it")):
-        done = subprocess.run([site.part("holders"), mode, book], capture_output=True, text=True)
-        if done.returncode:
-            raise Refused(done.stderr.strip().removeprefix("holders: "))
-        pids = " ".join(done.stdout.split())
+        pids = " ".join(printed("holders", mode, book).split())
         if pids:
-            raise Refused(f"process {pids} has {what} open: {book}. Stop the server first")
+            raise Failed(f"process {pids} has {what} open: {book}. Stop the server first")
 
 
 def leave_root(words):
@@ -313,10 +310,8 @@ def leave_root(words):
     not root: such a user could have root follow a link.
     """
     book, config = os.path.abspath(words.book), os.path.abspath(words.config)
-    done = subprocess.run([site.part("as-owner"), "--words", book], capture_output=True, text=True)
-    if done.returncode:
-        raise Refused(done.stderr.strip().removeprefix("as-owner: "))
-    if not done.stdout:
+    as_owner = printed("as-owner", "--words", book)
+    if not as_owner:
         return
     # Root sees what other users' processes have open.
     refuse_if_held(book)
@@ -325,17 +320,13 @@ def leave_root(words):
     # An older name of the program is the command itself.
     name = ["rewrite"] if os.path.basename(tool) == "radacctl" else []
     again = ["/usr/bin/python3", "-I", tool, *name, "--config", config, *kind, book]
-    command = [*done.stdout.splitlines(), *again]
+    command = [*as_owner.splitlines(), *again]
     os.chdir("/")
     os.execvp(command[0], command)
 
 
 def ended(number, _):
-    raise Refused(f"ended by {signal.Signals(number).name}")
-
-
-def megabytes(octets):
-    return f"{octets / 1e6:.1f} MB"
+    raise Failed(f"ended by {signal.Signals(number).name}")
 
 
 def parser():
@@ -354,13 +345,13 @@ def main(words):
         leave_root(words)
         rewrite = Rewrite(words.config, words.book, words.page_sums)
         before, after = rewrite.run()
-    except (Refused, site.Missing, OSError, sqlite3.Error) as fault:
+    except (Failed, site.Missing, OSError, sqlite3.Error) as fault:
         is_placed = rewrite is not None and rewrite.is_placed
         say(f"{fault}. The book is {'the new file' if is_placed else 'as it was'}")
         return 0 if is_placed else 1
     finally:
         if rewrite is not None and rewrite.is_begun:
-            with contextlib.suppress(Refused, OSError):
+            with contextlib.suppress(Failed, OSError):
                 rewrite.remove_new()
-    print(f"{rewrite.book}: {megabytes(before)} before, {megabytes(after)} now")
+    print(f"{rewrite.book}: {before / 1e6:.1f} MB before, {after / 1e6:.1f} MB now")
     return 0

@@ -55,13 +55,6 @@ LIVE, GIVEN, WITHDRAWN, UNANSWERED = "live", "given", "withdrawn", "unanswered"
 Row = collections.namedtuple("Row", "code sum sheet")
 
 
-def settings_of(path):
-    """The settings of the pages."""
-    what = f"cannot read {path}, which has the money: "
-    with program.told(fail, what, after="; give radacctl pages"):
-        return moneys.settings_in(path)
-
-
 def confirm(words, question):
     if not words.yes:
         program.confirm(question)
@@ -101,7 +94,9 @@ def new_sheet(folder, known):
 
 def make(words):
     """Makes a sheet, its CSV, and the codes in the stock."""
-    settings = settings_of(words.settings)
+    with program.told(fail, f"cannot read {words.settings}, which has the money: ",
+                      after="; give radacctl pages"):
+        settings = moneys.settings_in(words.settings)
     money = moneys.of_site(words.settings)
     total = money.units(words.sum)
     if total is None:
@@ -158,7 +153,10 @@ class Stock:
         for path in self.logs:
             self.withdrawn |= stocks.withdrawn_in(path)
         self.states = stocks.states_in(os.path.join(self.folder, "given", "given.csv"))
-        self.redeemed = redeemed_in(words.topups) if words.topups else {}
+        # The account of each printed code that a book credited, by its export.
+        topups = exports.rows_in(words.topups, "topups") if words.topups else ()
+        self.redeemed = {it["voucher"][2:]: it["account"] for it in topups
+                         if it["voucher"][:2] == "W-"}
 
     def account(self, code):
         """For whom a code is, and whether each desk said that it took it."""
@@ -181,12 +179,6 @@ class Stock:
         """The codes of a sheet: of the stock, and of the logs if an older stock was put back."""
         found = {it.code for it in self.rows.values() if it.sheet == sheet}
         return found | {code for code, it in self.withdrawn.items() if it[1] == sheet}
-
-
-def redeemed_in(path):
-    """The account of each printed code that a book credited, by its export."""
-    return {it["voucher"][2:]: it["account"] for it in exports.rows_in(path, "topups")
-            if it["voucher"][:2] == "W-"}
 
 
 def codes_in(path):

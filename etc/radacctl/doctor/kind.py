@@ -13,17 +13,22 @@ CLERK = "/etc/systemd/system/sockets.target.wants/radacctd-clerk.socket"
 REDEEM = "/etc/systemd/system/sockets.target.wants/radacctd-redeem.socket"
 
 
-# What a site may have: the words for it, and the units that are to run and start with the machine.
+# What a site may have: the words for it, the units that are to run and start with the machine, and
+# the traces that it is there. Any of these will do: what was lost is to be missed.
 PARTS = [
     ("has_front", "behind FreeRADIUS", "freeradius.service radacctd-mirror.service "
-                                       "radacctd-front.service radacctd-clock.timer"),
-    ("has_pages", "with pages", "nginx.service"),
-    ("has_codes", "with printed codes", "radacctd-redeem.socket"),
-    ("has_packages", "with packages", "radacctd-packages.timer"),
-    ("has_clerk", "", "radacctd-clerk.socket radacctd-clerk-work.socket"),
+     "radacctd-front.service radacctd-clock.timer",
+     (f"{site.RADDB}/radacctd", f"{site.RADDB}/sites-enabled/radacctd",
+      "/etc/systemd/system/radacctd-mirror.service")),
+    ("has_pages", "with pages", "nginx.service", (NGINX, "/etc/nginx/radacctd/cashier.conf")),
+    ("has_codes", "with printed codes", "radacctd-redeem.socket", (site.REDEEM_KEY, REDEEM)),
+    ("has_packages", "with packages", "radacctd-packages.timer",
+     (f"{site.RADDB}/mods-enabled/radacctd-packages", f"{site.RADDB}/radacctd/packages.conf")),
+    ("has_clerk", "", "radacctd-clerk.socket radacctd-clerk-work.socket",
+     ("/etc/radacctd-clerk/rights.toml", CLERK)),
     ("has_pair", "one of a pair", "radacctd-outbox.service radacctd-state.socket "
-                                  "radacctd-compare.timer"),
-    ("has_shards", "{} of 16 books", "radacctd-shards.service"),
+     "radacctd-compare.timer", (site.PAIR, f"{site.RADDB}/radacctd/pair.conf")),
+    ("has_shards", "{} of 16 books", "radacctd-shards.service", ()),
 ]
 
 
@@ -61,16 +66,9 @@ class Kind:
     """What the site has."""
 
     def __init__(self):
+        for name, *_, traces in PARTS:
+            setattr(self, name, is_there(*traces))
         self.has_shards = os.path.exists(TABLE)
-        # Any trace will do: what was lost is to be missed.
-        self.has_front = is_there(f"{site.RADDB}/radacctd", f"{site.RADDB}/sites-enabled/radacctd",
-                                  "/etc/systemd/system/radacctd-mirror.service")
-        self.has_pages = is_there(NGINX, "/etc/nginx/radacctd/cashier.conf")
-        self.has_pair = is_there(site.PAIR, f"{site.RADDB}/radacctd/pair.conf")
-        self.has_codes = is_there(site.REDEEM_KEY, REDEEM)
-        self.has_clerk = is_there("/etc/radacctd-clerk/rights.toml", CLERK)
-        self.has_packages = is_there(f"{site.RADDB}/mods-enabled/radacctd-packages",
-                                     f"{site.RADDB}/radacctd/packages.conf")
         if self.has_shards:
             found = glob.glob("/etc/radacctd-s?.toml")
             found += glob.glob("/etc/systemd/system/*/radacctd@s?.service")

@@ -7,6 +7,7 @@ import time
 from radacctl import desk
 from radacctl.doctor import look
 from radacctl.doctor.faults import Fault
+from radacctl.program import until
 
 # How long a voucher may wait for a desk, in seconds.
 LONGEST = 300
@@ -29,15 +30,14 @@ def look_at(kind):
 
 def compared():
     """How the last comparison ended. One that goes on has no result yet, and says `success`."""
-    end = time.monotonic() + COMPARING
-    while True:
+    def ended():
         found = look.properties("radacctd-compare.service", "ActiveState", "Result",
                                 "ExecMainStatus", "ExecMainExitTimestamp")
-        if found["ActiveState"] != "activating":
-            return found
-        if time.monotonic() > end:
-            raise look.Unseen(f"the comparison of both books takes more than {COMPARING} seconds")
-        time.sleep(1)
+        return found if found["ActiveState"] != "activating" else None
+
+    if (found := until(ended, COMPARING, 1)) is None:
+        raise look.Unseen(f"the comparison of both books takes more than {COMPARING} seconds")
+    return found
 
 
 def outbox():

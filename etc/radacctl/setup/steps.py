@@ -83,12 +83,9 @@ class Folder:
         with placed(self.path) as (folder, name):
             with contextlib.suppress(FileExistsError):
                 os.mkdir(name, 0o700, dir_fd=folder)
-            handle = os.open(name, files.FOLDER, dir_fd=folder)
-            try:
+            with files.handle_of(name, files.FOLDER, folder) as handle:
                 os.fchown(handle, *ids(self.owner, self.group))
                 os.fchmod(handle, self.mode)
-            finally:
-                os.close(handle)
 
 
 class File:
@@ -330,11 +327,8 @@ def begun(text, section, word):
 
 def wait_until(holds, seconds, why):
     """Waits until something holds; after so many seconds it fails for a reason that is asked then."""
-    end = time.monotonic() + seconds
-    while not holds():
-        if time.monotonic() > end:
-            raise Failed(why())
-        time.sleep(0.5)
+    if not program.until(holds, seconds, 0.5):
+        raise Failed(why())
 
 
 def given(words, text=None, seconds=1800):

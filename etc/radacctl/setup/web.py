@@ -42,7 +42,9 @@ def of(answers, config):
     yield Link("/etc/radacctd-web/plans.json", site.PLANS_JSON)
     yield File(money.SETTINGS, lambda old: settings(old, answers), 0o644)
     yield member(site.WEB_USER)
-    yield no_fcgiwrap()
+    # Debian's own one runs programs for every page, also if it came with another package.
+    yield Command("stop Debian's own fcgiwrap", lambda: not [*of_web.programs()],
+                  "systemctl", "disable", "--now", *of_web.FCGIWRAP)
     if answers.has_codes:
         yield from codes(config)
     yield from clerk(answers)
@@ -239,12 +241,6 @@ def rights_with(old, clerks):
         had = rights.rights_of(old or "")
     lines = [f"{name} = {json.dumps(found, ensure_ascii=False)}" for name, found in clerks.items()]
     return CLERK_HEAD + "\n".join([*lines, *(f"{it} = {had[it]}" for it in rights.LIMITS), ""])
-
-
-def no_fcgiwrap():
-    """Debian's own one runs programs for every page, also if it came with another package."""
-    return Command("stop Debian's own fcgiwrap", lambda: not [*of_web.programs()],
-                   "systemctl", "disable", "--now", *of_web.FCGIWRAP)
 
 
 def nginx():
