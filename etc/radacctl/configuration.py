@@ -107,19 +107,15 @@ def change(path, decide):
         if block:
             after = keys.with_more(after, block)
         wanted = [it for it in was.get("key", []) if it.get("token") not in ended] + made
-        test_same(after, was, wanted, path)
+        # Nothing else of it is another one.
+        try:
+            now = tomllib.loads(after.replace("\r\n", "\n"))
+        except tomllib.TOMLDecodeError:
+            now = {}
+        if now.get("key", []) != wanted or {**now, "key": 0} != {**was, "key": 0}:
+            fail(f"the keys of {path} are not written as [[key]]: change them by radacctl edit")
         fault = put_in_place(path, after, is_needed=bool(block))
     return Changed(list(ended), [it["token"] for it in made], fault)
-
-
-def test_same(text, was, wanted, path):
-    """Ends if a text is not what was, with the wanted keys."""
-    try:
-        now = tomllib.loads(text.replace("\r\n", "\n"))
-    except tomllib.TOMLDecodeError:
-        now = {}
-    if now.get("key", []) != wanted or {**now, "key": 0} != {**was, "key": 0}:
-        fail(f"the keys of {path} are not written as [[key]]: change them by radacctl edit")
 
 
 def put_in_place(path, text, is_needed):

@@ -83,21 +83,14 @@ def drafts():
     """The guests that were begun and not finished. One whose file is damaged is named, and waits."""
     for name in sorted(os.listdir(DRAFTS) if os.path.isdir(DRAFTS) else []):
         if found := DRAFT.fullmatch(name):
-            path = os.path.join(DRAFTS, name)
-            if (guest := draft_in(path)) is None:
-                say(f"{path} is damaged, so {found[1]} waits: put it back from a copy")
-            else:
+            path, guest = os.path.join(DRAFTS, name), None
+            with contextlib.suppress(ValueError):
+                guest = json.loads(files.text(path))
+            is_whole = isinstance(guest, dict) and guest.get("step") in (BEGUN, ASKED)
+            if is_whole and {"card", "sum"} <= guest.keys():
                 yield found[1], guest
-
-
-def draft_in(path):
-    """What the guest of this file is being made with, or None if it doesn't say that."""
-    try:
-        guest = json.loads(files.text(path))
-    except ValueError:
-        return None
-    is_whole = isinstance(guest, dict) and guest.get("step") in (BEGUN, ASKED)
-    return guest if is_whole and {"card", "sum"} <= guest.keys() else None
+            else:
+                say(f"{path} is damaged, so {found[1]} waits: put it back from a copy")
 
 
 def drop_draft(account):

@@ -95,18 +95,13 @@ def test_log(book):
             raise Failed(f"the log of {book} still has {size} octets")
 
 
-def test_tables(opened):
-    """Both have the tables that this program knows."""
-    text = "SELECT type, name, tbl_name, sql FROM {}.sqlite_schema ORDER BY rowid"
-    new, old = (opened.execute(text.format(it)).fetchall() for it in (NEW, OLD))
-    tables = {row[1] for row in old if row[0] == "table"}
-    if old != new or tables != {*FILLED, *COPIED}:
-        raise Failed("the book has other tables than this tool knows")
-
-
 def copy(opened):
     """Copies all rows in their order, in one transaction, and compares them."""
-    test_tables(opened)
+    # Both have the tables that this program knows.
+    schema = "SELECT type, name, tbl_name, sql FROM {}.sqlite_schema ORDER BY rowid"
+    new, old = (opened.execute(schema.format(it)).fetchall() for it in (NEW, OLD))
+    if old != new or {row[1] for row in old if row[0] == "table"} != {*FILLED, *COPIED}:
+        raise Failed("the book has other tables than this tool knows")
     opened.execute("BEGIN IMMEDIATE")
     for table in COPIED:
         rows = f"INSERT INTO {NEW}.{table} SELECT * FROM {OLD}.{table} ORDER BY rowid"

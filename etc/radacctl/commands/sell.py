@@ -140,17 +140,11 @@ def read(octets, known):
             refused[number] = cause
         else:
             vouchers.append(Record(number, fields[0], octets_of(fields[1]), int(fields[2])))
-        if cause in (None, "BadAccount"):
-            said += said_of(number, octets_of(fields[1]), cause)
+        if cause in (None, "BadAccount") and (why := names.why_not(octets_of(fields[1]))):
+            act = "may not enter" if cause else "is in the book, and credited"
+            account = names.for_desk(octets_of(fields[1]))
+            said.append(f"record {number}: the account `{account}` {act}: {why}")
     return vouchers, refused, said, False
-
-
-def said_of(number, account, cause):
-    """A line if the account of a record may not enter."""
-    why = names.why_not(account)
-    if why:
-        act = "may not enter" if cause else "is in the book, and credited"
-        yield f"record {number}: the account `{names.for_desk(account)}` {act}: {why}"
 
 
 def tell(lines):

@@ -280,9 +280,7 @@ def of(answers, config):
         yield Step("put the new plans into the book: radacctd stops for some seconds",
                    lambda: plans_are_in(answers), lambda: put_in_force(book))
     yield Fresh("restart radacctd", "radacctd.service", [site.DEFAULTS])
-    yield unit("radacctd.service")
-    for name in ("radacctd-nightly.timer", "radacctd-key.timer"):
-        yield unit(name)
+    yield from map(unit, ("radacctd.service", "radacctd-nightly.timer", "radacctd-key.timer"))
 
 
 def put_in_force(book):

@@ -138,12 +138,8 @@ def of(answers, config):
     """A file for each access server. The steps before it made the secrets."""
     yield Folder(FOLDER, 0o700)
     for device in answers.access_servers:
-        text = lambda _, device=device: text_now(device, answers, config)
+        def text(_, device=device):
+            if answers.has_front:
+                return text_of(device, answers, front.secret_of(device["name"], device["address"]))
+            return text_of(device, answers, config.clients[device["name"]]["secret"])
         yield File(f"{FOLDER}/{device['name']}.txt", text, 0o600)
-
-
-def text_now(device, answers, config):
-    """The text, once the secret is there."""
-    if answers.has_front:
-        return text_of(device, answers, front.secret_of(device["name"], device["address"]))
-    return text_of(device, answers, config.clients[device["name"]]["secret"])

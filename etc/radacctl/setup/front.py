@@ -74,9 +74,8 @@ def of(answers, config):
     yield Command("let systemd read its units", is_reloaded, "systemctl", "daemon-reload")
     yield from parts_running()
     yield running(tried.steps)
-    for name in ("radacctd-mirror.service", "radacctd-front.service", "radacctd-clock.timer",
-                 "freeradius.service"):
-        yield unit(name)
+    yield from map(unit, ("radacctd-mirror.service", "radacctd-front.service",
+                          "radacctd-clock.timer", "freeradius.service"))
     if answers.has_packages:
         yield unit(packages.UNIT)
     if answers.sql:

@@ -60,8 +60,8 @@ def conf_of(old, answers, secret):
 
 def after(answers, config):
     """What runs once FreeRADIUS does, and the answers for the other machine."""
-    for name in ("radacctd-outbox.service", "radacctd-state.socket", "radacctd-compare.timer"):
-        yield unit(name)
+    yield from map(unit, ("radacctd-outbox.service", "radacctd-state.socket",
+                          "radacctd-compare.timer"))
     paths = [desk.CASHIER_KEY, site.PAIR, "/usr/local/sbin/radacctd-outbox",
              f"{SYSTEMD}/radacctd-outbox.service"]
     yield Fresh("restart the outbox", "radacctd-outbox.service", paths)
