@@ -10,8 +10,7 @@ import time
 import urllib.parse
 import zlib
 
-from radacctl import desk as desks
-from radacctl import files, money, names
+from radacctl import desk as desks, files, money, names
 
 DESKS = ("own", "other")
 # In seconds: how long a desk has for a connection and for an answer, how long one that gave none is

@@ -11,8 +11,7 @@ import re
 import time
 import tomllib
 
-from radacctl import files, names, plans, program
-from radacctl import money as moneys
+from radacctl import files, money as moneys, names, plans, program
 from radacctl.money import Wrong
 
 FILE = "/etc/radacctd-packages/packages.toml"

@@ -29,7 +29,7 @@ def on(now):
     known = {account: (name or "", package) for account, name, package in sold.store().read(
         "SELECT account, json_extract(notes, '$.name'), package.name FROM login "
         "JOIN package ON package.id = login.package")}
-    # Only an access server of one address has its name.
+    # The name of each access server that has one address.
     servers, cut = {freeradius.value(block, "ip(?:v[46])?addr"): name
                     for name, block in freeradius.access_servers()}, lapses.cut_servers()
     for account, station, source, session, heard in rows:

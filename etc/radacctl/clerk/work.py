@@ -13,13 +13,11 @@ import socket
 import sys
 import time
 
-from radacctl import desk as desks
-from radacctl import cards, configuration, debits, keys, lapses, logins, names, packages, program
-from radacctl import servers, site, stock
+from radacctl import cards, configuration, debits, desk as desks, keys, lapses, logins, names
+from radacctl import packages, program, servers, site, stock
 from radacctl.clerk import forms, journal, lists, rights
 from radacctl.clerk.forms import Refused
-from radacctl.commands import debit, guest
-from radacctl.commands import packages as sold
+from radacctl.commands import debit, guest, packages as sold
 
 # In seconds: how long another act is waited for, the desk's answer, and the server's new keys.
 TURN, GIVE_UP, WAIT = 20, 5, 8

@@ -36,11 +36,9 @@ import sys
 import time
 import unicodedata
 
-from radacctl import desk as desks
-from radacctl import cards, codes, configuration, files, keys, lapses, logins, names
+from radacctl import cards, codes, configuration, desk as desks, files, keys, lapses, logins, names
 from radacctl import packages, program, servers, site, stock
-from radacctl.commands import packages as sold
-from radacctl.commands import sell as sells
+from radacctl.commands import packages as sold, sell as sells
 from radacctl.program import fail, say
 
 STOPPED = "stopped; the next `radacctl guest` completes it, or takes it back"

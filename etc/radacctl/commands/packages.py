@@ -43,8 +43,7 @@ import re
 import sys
 import time
 
-from radacctl import codes
-from radacctl import files, lapses, logins, names, packages, plans, program, site, stock
+from radacctl import codes, files, lapses, logins, names, packages, plans, program, site, stock
 from radacctl.commands import debit, sell as sells
 from radacctl import money as moneys
 from radacctl.program import fail, say

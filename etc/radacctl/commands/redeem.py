@@ -32,9 +32,7 @@ import os
 import re
 import sys
 
-from radacctl import desk as desks
-from radacctl import names, program, site
-from radacctl import stock as stocks
+from radacctl import desk as desks, names, program, site, stock as stocks
 
 # What says where files and desks are.
 PLACES = ("RADACCTD_STOCK", "RADACCTD_WITHDRAWN", "RADACCTD_KEY", "RADACCTD_DESKS")

@@ -40,8 +40,7 @@ import datetime
 import os
 import sqlite3
 
-from radacctl import money as moneys
-from radacctl import exports, names, program, sales_log, site, stock
+from radacctl import exports, money as moneys, names, program, sales_log, site, stock
 from radacctl.clerk import journal
 from radacctl.commands import guest
 

@@ -38,8 +38,7 @@ import threading
 import time
 import urllib.parse
 
-from radacctl import desk as desks
-from radacctl import exports, money, names, program, sales_log, site, stock
+from radacctl import desk as desks, exports, money, names, program, sales_log, site, stock
 
 HEADER = ["voucher", "account", "sum"]
 # The limits of an import.

@@ -41,8 +41,7 @@ import re
 import sys
 import time
 
-from radacctl import exports, files, money as moneys, names, program, sheets, site
-from radacctl import stock as stocks
+from radacctl import exports, files, money as moneys, names, program, sheets, site, stock as stocks
 from radacctl.program import fail
 
 LARGEST_COUNT = 10_000
@@ -108,9 +107,8 @@ def make(words):
     worth, together = money.shown(total), money.shown(words.count * total)
     if words.count > ASK_COUNT or words.count * total > ASK_TOTAL * 10**money.decimals:
         confirm(words, f"{words.count} vouchers of {worth}, {together} together?")
-    texts = [words.name or settings["name"] or "Wi-Fi", worth]
-    texts.append("Scan, or type the code on this page.")
-    texts.append("Scannen, oder Code auf dieser Seite tippen.")
+    texts = [words.name or settings["name"] or "Wi-Fi", worth,
+             "Scan, or type the code on this page.", "Scannen, oder Code auf dieser Seite tippen."]
     codes = set()
     while len(codes) < words.count:
         codes.add(stocks.new_code())

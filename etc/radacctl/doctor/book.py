@@ -204,9 +204,9 @@ def journal(book):
 
 
 def modes(wanted):
-    for path, rights in ((it, rights) for pattern, rights in wanted.items()
-                         for it in glob.glob(pattern)):
-        yield from mode(path, *rights)
+    for pattern, rights in wanted.items():
+        for path in glob.glob(pattern):
+            yield from mode(path, *rights)
 
 
 def mode(path, most, owners, groups_allowed):

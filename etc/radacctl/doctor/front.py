@@ -8,8 +8,7 @@ import tempfile
 import time
 
 from radacctl import files, freeradius, names, plans, shards, site
-from radacctl.doctor import book as books
-from radacctl.doctor import look, machine
+from radacctl.doctor import book as books, look, machine
 from radacctl.doctor.faults import Fault
 
 COUNTS = "/var/lib/radacctd-front/radacctd-front.prom"

@@ -12,8 +12,7 @@ import stat
 
 from radacctl import files, freeradius, money, site
 from radacctl.clerk import rights
-from radacctl.doctor import kind as kinds
-from radacctl.doctor import look
+from radacctl.doctor import kind as kinds, look
 from radacctl.doctor.faults import Fault
 
 FOLDER, WEB = "/etc/nginx/radacctd", "/etc/radacctd-web"
