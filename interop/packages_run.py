@@ -10,7 +10,7 @@ sys.dont_write_bytecode = True
 HERE = os.path.dirname(os.path.abspath(__file__))
 sys.path.insert(0, os.path.join(os.path.dirname(HERE), "etc"))
 
-from radacctl import codes, lapses, logins, main, money, packages, site
+from radacctl import lapses, logins, main, money, packages, site
 from radacctl.clerk import journal, rights
 from radacctl.commands import guest
 from radacctl.commands import packages as command
@@ -27,7 +27,7 @@ def moved(folder):
     logins.FOLDER, logins.USES_FOLDER = path("logins"), path("uses")
     guest.LOCK, guest.DRAFTS = path("guest.lock"), path("guests")
     journal.FILE, rights.FILE = path("books/clerk.csv"), path("clerk.toml")
-    lapses.MIRROR, codes.LOG = path("run/balances.db"), path("sheets.csv")
+    lapses.MIRROR, command.SHEETS = path("run/balances.db"), path("sheets.csv")
     log = (logins.LOG,)
     changed = {
         money.settings_in: (path("settings.json"),),

@@ -12,7 +12,7 @@ import unittest
 from unittest import mock
 
 from radacctl import desk as desks
-from radacctl import cards, codes, configuration, debits, files, lapses, logins, money
+from radacctl import cards, configuration, debits, files, lapses, logins, money
 from radacctl import main, names, servers, site, stock
 from radacctl.commands import allow, debit, guest, packages as sold
 from tool_tests.test_packages import Books, Here, MEMORY, PACKAGE
@@ -427,7 +427,7 @@ class Codes(unittest.TestCase):
                        contextlib.redirect_stderr(io.StringIO())):
             stream.__enter__()
             self.addCleanup(stream.__exit__, None, None, None)
-        for where, name, new in ((codes, "LOG", self.site.path("sheets.csv")),
+        for where, name, new in ((sold, "SHEETS", self.site.path("sheets.csv")),
                                  (sold.sells.desks, "CASHIER_KEY", self.site.path("cashier.key"))):
             patched = mock.patch.object(where, name, new)
             patched.start()

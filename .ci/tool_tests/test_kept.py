@@ -232,7 +232,7 @@ class Free(unittest.TestCase):
                 (command.plans, "in_force", lambda: {"default": ("1", "5", "both")}),
                 (command, "key_of", lambda _: "k"), (logins, "package_row", lambda *_: 1),
                 (command, "new_codes", lambda *_: [("A-B-C", "t-0123456789ab", "d")]),
-                (command.codes, "sheet", lambda *_: b"%PDF"), (command.codes, "log", log),
+                (command.sheets, "logins", lambda *_: b"%PDF"), (command, "log_sheet", log),
             ):
                 patches.enter_context(mock.patch.object(where, what, new))
             said = patches.enter_context(contextlib.redirect_stderr(io.StringIO()))

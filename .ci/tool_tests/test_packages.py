@@ -13,7 +13,7 @@ import types
 import unittest
 from unittest import mock
 
-from radacctl import codes, debits, files, lapses, logins, money, names, packages, program, site
+from radacctl import debits, files, lapses, logins, money, names, packages, program, site
 from radacctl import stock
 from radacctl.commands import packages as command
 from radacctl.doctor import book
@@ -263,7 +263,7 @@ class Withdraw(unittest.TestCase):
             (logins, "mend", lambda _: 0), (command, "named", lambda *_: self.codes),
             (logins, "own_log", lambda: None), (lapses, "end", end),
             (lapses, "disconnect", lambda *_: 0), (program, "confirm", self.asked.append),
-            (names, "balances", self.balances_now), (codes, "await_balances", anew),
+            (names, "balances", self.balances_now), (names, "await_balances", anew),
         ):
             patched = mock.patch.object(where, name, new)
             patched.start()
@@ -321,13 +321,13 @@ class Withdraw(unittest.TestCase):
 class Codes(unittest.TestCase):
     def test_balances_of_a_time_to_come_lack_what_was_sold_now(self):
         now = time.time()
-        with tempfile.NamedTemporaryFile() as file, mock.patch.object(codes, "WRITTEN", -1):
+        with tempfile.NamedTemporaryFile() as file, mock.patch.object(names, "WRITTEN", -1):
             os.utime(file.name, (now, now))
-            codes.await_balances(now - 1, file.name)
+            names.await_balances(now - 1, file.name)
             for moment in (now + 3600, now - 2):
                 os.utime(file.name, (moment, moment))
                 with contextlib.redirect_stderr(io.StringIO()), self.assertRaises(SystemExit):
-                    codes.await_balances(now - 1, file.name)
+                    names.await_balances(now - 1, file.name)
 
     def test_the_account_says_nothing_of_the_code_without_the_key(self):
         code = "ACDEF-HJKMN-PQRTU"
@@ -695,7 +695,7 @@ class Sheets(unittest.TestCase):
     def test_a_sum_is_not_that_of_the_database(self):
         with tempfile.TemporaryDirectory(dir=MEMORY) as folder, \
                 mock.patch.object(logins, "Child", Here), \
-                mock.patch.object(codes, "LOG", os.path.join(folder, "sheets.csv")), \
+                mock.patch.object(command, "SHEETS", os.path.join(folder, "sheets.csv")), \
                 contextlib.redirect_stderr(io.StringIO()):
             found = Site(folder)
             found.login(b"t-0123456789ab")
@@ -705,7 +705,7 @@ class Sheets(unittest.TestCase):
                 self.assertRaises(SystemExit, command.named, found.store, what)
                 # It may be withdrawn all the same: it was stolen, say.
                 self.assertEqual(len(command.named(found.store, what, False)), 1)
-            codes.log([1, "week-20261127-acdef", "week", 50, 900])
+            command.log_sheet([1, "week-20261127-acdef", "week", 50, 900])
             for what in ("t-0123456789ab", "week-20261127-acdef.pdf"):
                 self.assertEqual(command.named(found.store, what),
                                  [(b"t-0123456789ab", "live", None, None, 50, 900)])

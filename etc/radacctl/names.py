@@ -8,8 +8,10 @@ itself, or as % and two hexadecimal digits.
 
 import csv
 import io
+import os
 import re
 import string
+import time
 import urllib.parse
 
 from radacctl import files, program, site
@@ -17,6 +19,8 @@ from radacctl import files, program, site
 LONGEST = 253
 # The header of a file of balances.
 BALANCES = ["account", "balance", "overrun"]
+# In seconds: how long newer balances are awaited.
+WRITTEN = 90
 # What the desk takes as itself; any other octet is % and two digits there.
 PLAIN = frozenset(string.printable[:95].encode()) - frozenset(b'%"\\')
 # Unicode's white space, and marks that nobody sees: they come along if a name is copied. One says
@@ -89,6 +93,26 @@ def balances(path=None):
     """The same of the site's file, or of another one in a folder of the service's user."""
     path = path or site.BALANCES
     return balances_of(files.text(path), path)
+
+
+def are_written(moment, path):
+    """Waits until the balances were written since a moment: what was sold before it is in them."""
+    # Those of a time to come were written before it, by a clock that was ahead.
+    return program.until(lambda: os.path.exists(path)
+                         and moment <= os.stat(path).st_mtime <= time.time(), WRITTEN)
+
+
+def await_balances(moment, path=None):
+    """The same; without them nothing is done."""
+    path = path or site.BALANCES
+    if not are_written(moment, path):
+        program.fail(f"{path} is not written anew: nothing was done. Is radacctd running?")
+
+
+def known_accounts():
+    """The accounts of the book: a number that was sold once is never made again."""
+    with program.told(program.fail, "", OSError, ValueError, after=": is radacctd running?"):
+        return {shown(it) for it in balances()}
 
 
 def csv_of(header, rows):

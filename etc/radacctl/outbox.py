@@ -26,10 +26,8 @@ STATES = {desks.NEW: TAKEN, desks.REPEAT: TAKEN, desks.DIFFERS: DIFFERS, desks.L
 REFUSED = {DIFFERS: (409, {"error": "voucher differs"}), LIMIT: (422, {"error": "balance limit"})}
 UNAVAILABLE = 503, {"error": "unavailable"}
 NEW_ONE, REPEAT = (201, {"result": "new"}), (200, {"result": "repeat"})
-ALARM = (
-    f"(own = '{TAKEN}' AND other IN ('{DIFFERS}', '{LIMIT}') OR "
-    f"other = '{TAKEN}' AND own IN ('{DIFFERS}', '{LIMIT}'))"
-)
+ALARM = (f"(own = '{TAKEN}' AND other IN ('{DIFFERS}', '{LIMIT}') OR "
+         f"other = '{TAKEN}' AND own IN ('{DIFFERS}', '{LIMIT}'))")
 TABLE = f"""
 CREATE TABLE IF NOT EXISTS sale (
     id INTEGER PRIMARY KEY, voucher TEXT NOT NULL UNIQUE, account TEXT NOT NULL,
@@ -72,10 +70,8 @@ class Store:
 
     def keep(self, voucher, account, total):
         """Keeps a voucher unless its number is kept, and returns what is kept under it."""
-        self.run(
-            "INSERT OR IGNORE INTO sale (voucher, account, sum, given) VALUES (?, ?, ?, ?)",
-            voucher, account, total, int(time.time()),
-        )  # fmt: skip
+        self.run("INSERT OR IGNORE INTO sale (voucher, account, sum, given) VALUES (?, ?, ?, ?)",
+                 voucher, account, total, int(time.time()))
         return self.of(voucher)
 
     def of(self, voucher):
@@ -103,11 +99,9 @@ class Store:
         """
         text = "SELECT count(*) AS count, min(iif(given > ?, 0, given)) AS oldest FROM sale WHERE "
         found = [self.run(text + WAITS[desk], time.time())[0] for desk in DESKS]
-        return {
-            "waiting": {desk: row["count"] for desk, row in zip(DESKS, found)},
-            "oldest": min((row["oldest"] for row in found if row["count"]), default=None),
-            "alarms": [row["voucher"] for row in self.alarms()],
-        }
+        return {"waiting": {desk: row["count"] for desk, row in zip(DESKS, found)},
+                "oldest": min((row["oldest"] for row in found if row["count"]), default=None),
+                "alarms": [row["voucher"] for row in self.alarms()]}
 
 
 class Away(Exception):
@@ -280,12 +274,8 @@ def voucher_of(body):
     try:
         account = urllib.parse.unquote_to_bytes(said["account"].encode())
         voucher, total = said["voucher"], said["sum"]
-        is_right = (
-            1 <= len(account) <= names.LONGEST
-            and desks.NUMBER.fullmatch(voucher)
-            and type(total) is int
-            and 1 <= total <= money.LARGEST_SUM
-        )
+        is_right = (1 <= len(account) <= names.LONGEST and desks.NUMBER.fullmatch(voucher)
+                    and type(total) is int and 1 <= total <= money.LARGEST_SUM)
     except (KeyError, TypeError, AttributeError, UnicodeError):
         is_right = False
     return (voucher, names.for_desk(account), total) if is_right else (422, {"error": "bad topup"})

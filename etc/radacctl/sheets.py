@@ -96,13 +96,6 @@ def draw_text(canvas, fonts, size, x, y, text):
         x += canvas.stringWidth(part, name, size)
 
 
-def lines_of(code, texts, url):
-    """The lines of a voucher of money: font, size, how far down, text."""
-    plain = zip((66, 76, 86), (url.removeprefix("https://"), *texts[2:]))
-    return [(BOLD, 11, 16, texts[0]), (BOLD, 15, 34, texts[1]), (CODE, 10, 52, code),
-            *((PLAIN, 7, down, text) for down, text in plain)]
-
-
 def draw(canvas, fonts, x, y, lines, link):
     """Draws one voucher whose upper left corner is at a place. Bold letters may be of any font."""
     canvas.setStrokeGray(0.6)
@@ -123,9 +116,24 @@ def draw(canvas, fonts, x, y, lines, link):
     canvas.drawPath(path, stroke=0, fill=1)
 
 
+# Of each line of a voucher: font, size, how far down, text.
+
+
 def money(codes, texts, url):
     """A PDF of vouchers of money."""
-    return sheet(texts[0], [(lines_of(it, texts, url), f"{url}#c={it}") for it in codes])
+    head = [(BOLD, 11, 16, texts[0]), (BOLD, 15, 34, texts[1])]
+    plain = zip((66, 76, 86), (url.removeprefix("https://"), *texts[2:]))
+    foot = [(PLAIN, 7, down, text) for down, text in plain]
+    return sheet(texts[0], [([*head, (CODE, 10, 52, it), *foot], f"{url}#c={it}") for it in codes])
+
+
+def logins(codes, texts, link):
+    """A PDF of codes that log in, by their accounts. In a link {code} stands for the code."""
+    head = [(BOLD, 11, 15, texts[0]), (BOLD, 11, 29, texts[1])]
+    small = [(BOLD, 6.5, *it) for it in zip((57, 66, 75), texts[2:])]
+    return sheet(texts[1], [
+        ([*head, (CODE, 10, 46, code), *small, (PLAIN, 6.5, 87, f"No. {account}")],
+         link.replace("{code}", code) if link else code) for code, account in codes])
 
 
 def sheet(title, vouchers):

@@ -5,6 +5,7 @@ that a spreadsheet may open: no field of it is a formula. Octets that are no pla
 and two digits. An account is spelled as in a request to the desk.
 """
 
+import collections
 import os
 
 from radacctl import files, names, site, stock
@@ -24,18 +25,16 @@ def plain(field):
     return names.octets_of(field).decode("utf-8", "surrogateescape")
 
 
-class Line:
-    """One line: the act of a number."""
-
-    def __init__(self, row):
-        self.moment, self.account = int(row[0]), row[4]
-        self.cashier, self.act, self.number, self.what, self.state = (
-            plain(row[it]) for it in (1, 2, 3, 5, 6))
+# One line: the act of a number.
+Line = collections.namedtuple("Line", "moment cashier act number account what state")
 
 
 def lines():
     """The whole lines of the journal; none if there is no file."""
-    return [Line(row) for row in stock.rows_in(FILE, HEADER) if row[0].isdigit()]
+    return [Line(int(moment), plain(cashier), plain(act), plain(number), account, plain(what),
+                 plain(state))
+            for moment, cashier, act, number, account, what, state in stock.rows_in(FILE, HEADER)
+            if moment.isdigit()]
 
 
 def last_of(act):

@@ -27,7 +27,7 @@ import os
 import re
 import time
 
-from radacctl import codes, debits, files, money as moneys, names, program, site, stock
+from radacctl import debits, files, money as moneys, names, program, site, stock
 from radacctl.commands import debit, sell as sells
 from radacctl.program import say
 
@@ -94,7 +94,7 @@ class Allowing:
         self.counts, self.taken = collections.Counter(), 0
         self.books, self.left = None, {}
         if words.lapse:
-            codes.await_balances(time.time(), words.balances)
+            names.await_balances(time.time(), words.balances)
             self.left = names.balances(words.balances)
             self.books = debits.Books(debit.words_of(words))
         self.notes = Notes(words.notes)

@@ -36,7 +36,7 @@ import sys
 import time
 import unicodedata
 
-from radacctl import cards, codes, configuration, desk as desks, files, keys, lapses, logins, names
+from radacctl import cards, configuration, desk as desks, files, keys, lapses, logins, names
 from radacctl import packages, program, servers, site, stock
 from radacctl.commands import packages as sold, sell as sells
 from radacctl.program import fail, say
@@ -106,7 +106,7 @@ def slug_of(name):
 def new_account(name, logins_store, config):
     """An account that nobody has or had: not in the database, the book, the keys or the users."""
     taken = {names.shown(row[0]) for row in logins_store.read("SELECT account FROM login")}
-    taken |= codes.known_accounts() | {names.shown(it) for it in logins.ended_in()}
+    taken |= names.known_accounts() | {names.shown(it) for it in logins.ended_in()}
     taken |= {it.get("account", "") for it in keys.config_in(config).get("key", [])}
     users = files.text(os.path.join(site.RADDB, "mods-config/files/authorize"))
     while True:

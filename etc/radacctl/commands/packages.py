@@ -43,7 +43,7 @@ import re
 import sys
 import time
 
-from radacctl import codes, files, lapses, logins, names, packages, plans, program, site, stock
+from radacctl import files, lapses, logins, names, packages, plans, program, sheets, site, stock
 from radacctl.commands import debit, sell as sells
 from radacctl import money as moneys
 from radacctl.program import fail, say
@@ -51,6 +51,8 @@ from radacctl.program import fail, say
 STOPPED = "stopped; give the same again: nothing is sold or taken twice"
 SHEET = re.compile(r"[a-z0-9-]{1,24}-[0-9]{8}-[a-z0-9]{5}")
 SERIAL = re.compile(r"t-[0-9a-f]{12}")
+# What the codes of a sheet give and cost: root's, since FreeRADIUS' user writes the database.
+SHEETS, SHEETS_HEADER = f"{site.BOOKS}/sheets.csv", b"moment,sheet,package,credit,price\n"
 LINK = re.compile(r'https?://[^\s"<>{}]{1,120}\{code\}[^\s"<>{}]{0,99}(\{code\}[^\s"<>{}]{0,60})?')
 MOST = 1000
 LOCK = "/run/radacctd-packages.lock"
@@ -117,11 +119,13 @@ def print_codes(words):
     sheet = new_sheet(package.name, words.to)
     made = new_codes(words.count, key, logins_store)
     path = os.path.join(words.to, sheet + ".pdf")
-    texts = codes.texts_of(package, money, words.name)
-    files.make_named(path, codes.sheet([it[:2] for it in made], texts, words.link))
+    texts = [words.name or "Wi-Fi", package.title,
+             f"{money.shown(package.price)}, {package.validity()}",
+             "Name and password are this code.", "Name und Passwort sind dieser Code."]
+    files.make_named(path, sheets.logins([it[:2] for it in made], texts, words.link))
     now = int(time.time())
     try:
-        codes.log([now, sheet, package.name, package.credit, package.price])
+        log_sheet([now, sheet, package.name, package.credit, package.price])
         logins_store.run(*((
             "INSERT INTO login VALUES (?, ?, NULL, ?, ?, ?, ?, ?, 'live', ?, NULL, NULL, ?, NULL)",
             (account.encode(), digest, number, package.plan, package.devices, package.seconds,
@@ -134,6 +138,12 @@ def print_codes(words):
     return 0
 
 
+def log_sheet(row):
+    """Adds a sheet to root's log, before one of its codes can be sold."""
+    files.make_folder(os.path.dirname(SHEETS))
+    stock.add_rows(SHEETS, SHEETS_HEADER, [row])
+
+
 def new_sheet(name, folder):
     """A name that no sheet has: 22 random bits, so that none of a lost database has it, too."""
     if not os.path.isdir(folder):
@@ -144,7 +154,7 @@ def new_sheet(name, folder):
 def new_codes(count, key, logins_store):
     """Codes whose serial numbers nobody has: code, account and digest of each."""
     taken = {row[0].decode() for row in logins_store.read("SELECT account FROM login")}
-    taken |= codes.known_accounts()
+    taken |= names.known_accounts()
     made = {}
     while len(made) < count:
         code = stock.new_code()
@@ -164,11 +174,12 @@ def named(logins_store, what, is_for_sale=True):
         return fail(f"{what} is no serial number, as t-0123456789ab, and no sheet")
     found = logins_store.read("SELECT account, state, sold, ends, sheet FROM login WHERE "
                               f"digest IS NOT NULL AND {condition} ORDER BY account", value)
-    known = codes.sold() if is_for_sale else {}
+    rows = stock.rows_in(SHEETS, SHEETS_HEADER) if is_for_sale else ()
+    known = {row[1]: (int(row[3]), int(row[4])) for row in rows}
     lost = {it[-1] for it in found} - set(known)
     others = [it[0] for it in found if not SERIAL.fullmatch(names.shown(it[0]))]
     if is_for_sale and lost:
-        fail(f"{codes.LOG} has no {min(lost)}: nobody knows what its codes give")
+        fail(f"{SHEETS} has no {min(lost)}: nobody knows what its codes give")
     if is_for_sale and others:
         fail(f"{names.shown(others[0])} is no code, and somebody wrote it among those of {what}: "
              "nothing was sold")
@@ -198,9 +209,9 @@ def sell(words):
     begun, logins_store = time.time(), store()
     logins.mend(logins_store)
     for_sale(words, logins_store)
-    codes.await_balances(begun)
+    names.await_balances(begun)
     # One of them may have been withdrawn meanwhile.
-    return credit(words, logins_store, for_sale(words, logins_store), codes.known_accounts())
+    return credit(words, logins_store, for_sale(words, logins_store), names.known_accounts())
 
 
 def credit(words, logins_store, found, known):
@@ -245,7 +256,7 @@ def sold_twice(found):
     """
     left = None if found else {}
     with contextlib.suppress(OSError, ValueError):
-        if found and codes.are_written(time.time(), site.BALANCES):
+        if found and names.are_written(time.time(), site.BALANCES):
             left = names.balances()
     if left is None:
         say(f"{site.BALANCES} is not written anew, so look whether the desk's page sold one, too")
@@ -263,7 +274,7 @@ def withdraw(words):
     logins.mend(logins_store)
     if words.unsold:
         # Else a code that the desk sold just now would count as one that nobody bought.
-        codes.await_balances(begun)
+        names.await_balances(begun)
     found = {it.account: it for what in words.what for it in named(logins_store, what, False)}
     over = sum(it.state != logins.LIVE for it in found.values())
     live = [it.account for it in found.values() if it.state == logins.LIVE]
@@ -292,7 +303,7 @@ def sold_of(found, live, is_needed):
     try:
         known = {names.shown(it) for it in names.balances()}
     except (OSError, ValueError):
-        known = codes.known_accounts() if is_needed else set()
+        known = names.known_accounts() if is_needed else set()
     return {it for it in live if found[it].sold is not None or names.shown(it) in known}
 
 

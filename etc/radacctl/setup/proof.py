@@ -9,7 +9,7 @@ import os
 import secrets
 import time
 
-from radacctl import codes, desk, files, freeradius, site
+from radacctl import desk, files, freeradius, names, site
 from radacctl.doctor import kind, look
 from radacctl.setup import alone, front, steps
 
@@ -69,7 +69,7 @@ class Proof:
 
     def wait_for_balances(self):
         """Waits until the balances are newer than now: so they have all that was sold before."""
-        if not codes.are_written(time.time(), site.BALANCES):
+        if not names.are_written(time.time(), site.BALANCES):
             raise steps.Failed(f"the server does not write {site.BALANCES}: radacctl doctor")
 
     def balance(self):
