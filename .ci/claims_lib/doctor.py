@@ -6,6 +6,80 @@ import os
 from claims_lib.tree import ROOT
 
 PLACE = os.path.join(ROOT, "etc", "radacctl", "doctor", "faults.py")
+# What an operator does, by the fault. The doctor prints a cure of its own, of what it found.
+CURES = {
+    "book-away": "**stop and restart nothing**: [the book is "
+                 "missing](DAMAGE.md#the-book-is-missing)",
+    "unit-down": "start it; `journalctl -u` and its name says why it stopped",
+    "unit-failed": "`journalctl -u` and its name; once it is mended, start it: it shows that it "
+                   "runs",
+    "config-wrong": "`radacctl edit` ([SITE](SITE.md#the-first-fault))",
+    "plan-waits": "[add it to the book](SITE.md#add-a-plan)",
+    "plan-lost": "write it back as it was, by `radacctl edit`",
+    "balances-old": "`journalctl -u radacctd`, disk and folder",
+    "book-shut": "[disk and memory](TROUBLE.md#the-disk-fails-or-is-full)",
+    "disk-full": "[make space](TROUBLE.md#a-full-disk)",
+    "clock-wrong": "set the clock",
+    "drop-secret": "write one secret into both",
+    "device-secret": "write one secret into access-servers.conf and there; restart freeradius",
+    "raddb-wrong": "the line's command names the place",
+    "raddb-steps": "`radacctl setup`, or [the step](FREERADIUS.md#set-it-up)",
+    "front-address": "one port in `/etc/default/radacctd` and `radacctd/settings.conf`",
+    "front-secret": "one secret and address in both",
+    "queue-folder": "give the folder to freerad",
+    "queue-state": "[the state's row](FREERADIUS.md#when-the-queue-cannot-be-written)",
+    "queue-waits": "without `book-away`: start radacctd; [secret and "
+                   "address](FREERADIUS.md#reports-that-do-not-reach-radacctd)",
+    "mirror-missing": "restart [the mirror](FREERADIUS.md#the-mirror)",
+    "mirror-old": "without `book-away`: restart radacctd and the mirror; look at the clock",
+    "mirror-plans": "restart the mirror",
+    "packages-steps": "`radacctl setup`, or [the step](PACKAGES.md#switch-it-on)",
+    "packages-lost": "put their folder back from a copy, as the line says",
+    "packages-shut": "restore nothing: space and owner, then restart freeradius",
+    "packages-key": "put the old key back into packages.conf",
+    "nginx-wrong": "`nginx -t` names the line",
+    "pages-silent": "nginx' error log",
+    "key-unknown": "write one key into both",
+    "certificate-ended": "renew it, and reload nginx, or restart freeradius",
+    "pair-alarm": "[decide for one](PAIR.md)",
+    "pair-differs": "`journalctl -u radacctd-compare`; [PAIR](PAIR.md)",
+    "unit-off": "`systemctl enable` and its name",
+    "old-program": "restart the unit that it names",
+    "sample-value": "replace it, by `radacctl edit`",
+    "secret-short": "write a longer one here and at the device",
+    "secret-shared": "give each its own",
+    "mode-open": "give it the mode that the line says",
+    "mode-wrong": "give it the group that the line says",
+    "group-wrong": "[users and rights](INSTALL.md#users-and-rights)",
+    "keys-full": "end keys, or use [16 books](SHARDS.md)",
+    "log-odd": "what the line says; [what the server prints](TROUBLE.md#what-the-server-prints)",
+    "clock-unset": "install and start a service for NTP",
+    "file-old": "`radacctl setup` makes it a link, and keeps what was there",
+    "tunnel-login": "[step 7](FREERADIUS.md#set-it-up) in the inner tunnel",
+    "names-refused": "[radacctd_filter](FREERADIUS.md#which-names-may-log-in)",
+    "status-check": "[`status_check = none`](FREERADIUS.md#freeradius-as-a-plain-proxy)",
+    "device-unknown": "write it into access-servers.conf, and restart freeradius; or shut it out",
+    "counts-old": "restart radacctd-front",
+    "unsent": "[look at them, and send them "
+              "again](FREERADIUS.md#reports-that-do-not-reach-radacctd)",
+    "packages-file": "what the line says",
+    "clerk-file": "what the line says",
+    "packages-wait": "`journalctl -u radacctd-packages`",
+    "packages-logged": "set auth to no in the section log of radiusd.conf",
+    "certificate-ends": "renew it, and reload nginx, or restart freeradius",
+    "certificate-old": "reload nginx, or restart freeradius",
+    "pages-plans": "`radacctl pages`, and a restart of radacctd",
+    "pages-settings": "write name, address and currency",
+    "fcgiwrap-open": "disable it",
+    "fail2ban-down": "restart fail2ban",
+    "fail2ban-desk": "write the front desk's network into ignoreip",
+    "log-open": "`chmod o=` and [the rule for it](DESK.md#put-a-proxy-in-front)",
+    "copy-old": "`systemctl start radacctd-nightly`",
+    "copy-bad": "[DAMAGE](DAMAGE.md); make a copy now",
+    "copy-exports": "make a copy now",
+    "copy-sql": "`systemctl start radacctd-nightly` says why",
+    "pair-waits": "start what is down ([PAIR](PAIR.md#start-it-again))",
+}
 
 
 def faults():
@@ -19,8 +93,8 @@ def table(_checker, which):
     rows = {"critical": faults().CRITICALS, "warnings": faults().WARNINGS}[which]
     yield "| Name | It means | Do this |"
     yield "|---|---|---|"
-    for name, (meaning, cure) in rows.items():
-        yield f"| {name} | {meaning} | {cure} |"
+    for name, meaning in rows.items():
+        yield f"| {name} | {meaning} | {CURES[name]} |"
 
 
 MAKERS = {"doctor": table}

@@ -116,11 +116,9 @@ def draw(canvas, fonts, x, y, lines, link):
     canvas.drawPath(path, stroke=0, fill=1)
 
 
-# Of each line of a voucher: font, size, how far down, text.
-
-
 def money(codes, texts, url):
     """A PDF of vouchers of money."""
+    # Of each line of a voucher: font, size, how far down, text.
     head = [(BOLD, 11, 16, texts[0]), (BOLD, 15, 34, texts[1])]
     plain = zip((66, 76, 86), (url.removeprefix("https://"), *texts[2:]))
     foot = [(PLAIN, 7, down, text) for down, text in plain]
