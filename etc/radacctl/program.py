@@ -10,9 +10,10 @@ import time
 
 # As the caller spelled it, `radacctl sell`, or an older name.
 NAME = "radacctl"
-# In what a command line may have: an option, and perhaps its value; an argument, which may be left
-# out, or be several.
-WORDS = re.compile(r"--([a-z-]+)(?: ([A-Z][A-Z.-]*))?|(\[)?([A-Za-z]+)(\.\.)?\]?")
+# In what a command line may have: an option and its value, several, or one that is needed (!); an
+# argument, which may be left out, or be several.
+WORDS = re.compile(r"--([a-z-]+)(?: ([A-Z][A-Z-]*(?:\.[A-Z]+)*)(\.\.)?(!)?)?|"
+                   r"(\[)?([A-Za-z]+)(\.\.)?\]?")
 # What separates the lines of a longer text, and what is on them.
 LINES = "\n\t"
 
@@ -121,7 +122,7 @@ def add(it, words, **usual):
 
     A value is of the kind of the usual one; or `usual` says of which kind, and it may be missing.
     """
-    for option, value, may_lack, name, many in WORDS.findall(words):
+    for option, value, values, is_needed, may_lack, name, many in WORDS.findall(words):
         default = usual.get((option or name.lower()).replace("-", "_"))
         kind = default if callable(default) else str if default is None else type(default)
         how = {"default": None if callable(default) else default, "type": kind}
@@ -129,6 +130,7 @@ def add(it, words, **usual):
             how["nargs"] = "?" if may_lack else "+" if many else None
             it.add_argument(name.lower(), metavar=name, **how)
         elif value:
+            how |= {"nargs": "+" if values else None, "required": bool(is_needed)}
             it.add_argument(f"--{option}", metavar=value, **how)
         else:
             it.add_argument(f"--{option}", action="store_true")

@@ -156,9 +156,8 @@ def allow(words, rows, money):
 
 
 def parser():
-    it = program.parser(__doc__, "LIST --sum SUM --lapse --dry-run --balances FILE --notes FILE",
-                        balances=site.BALANCES, notes=NOTES)
-    it.add_argument("--month", required=True)
+    it = program.parser(__doc__, "LIST --month MONTH! --sum SUM --lapse --dry-run --balances FILE "
+                        "--notes FILE", balances=site.BALANCES, notes=NOTES)
     sells.add_desk(it, 60)
     debit.add_to(it)
     return it

@@ -37,9 +37,9 @@ SIDES = {
 
 
 def parser():
-    it = program.parser(__doc__, "--quiet --counts FILE --list")
+    it = program.parser(__doc__)
     it.add_argument("--only", nargs="+", metavar="NAME", choices=sorted(faults.MEANINGS))
-    return it
+    return program.add(it, "--quiet --counts FILE --list")
 
 
 # What follows from a book that is away, and what a cure of another fault says of the server.

@@ -430,11 +430,11 @@ def uses_made():
 def parser():
     it = program.parser(__doc__)
     acts = program.acts(it, {
-        "list": "[SHEET]", "print": "PACKAGE --to FOLDER --link URL --name NAME", "sell": "WHAT..",
+        "list": "[SHEET]",
+        "print": "PACKAGE --count COUNT! --to FOLDER --link URL --name NAME", "sell": "WHAT..",
         "withdraw": "WHAT.. --unsold --yes", "make": "", "mend": "",
         "tick": "--steady SECONDS --wait SECONDS --mirror FILE --lock FILE",
-    }, to=".", steady=lapses.STEADY, wait=10, mirror=lapses.MIRROR, lock=LOCK)  # fmt: skip
-    acts["print"].add_argument("--count", type=int, required=True)
+    }, count=int, to=".", steady=lapses.STEADY, wait=10, mirror=lapses.MIRROR, lock=LOCK)
     debit.add_to(acts["tick"])
     for act, give_up in (("sell", 60), ("tick", 5)):
         sells.add_desk(acts[act], give_up)

@@ -248,7 +248,7 @@ def parser():
         "of": "", "on": "address", "each": "address", "for": "", "debit": "", "key": "",
         "sell": None,
         "defaults": "", "freeradius": "", "nginx": "", "join": "[seconds]",
-        "check": "--oldest SECONDS",
+        "check": "--topups FILE.. --oldest SECONDS",
     }, "ACT", seconds=float, oldest=60.0)  # fmt: skip
     acts["of"].add_argument("account", nargs="*")
     acts["key"].add_argument("what", choices=("new", "revoke"))
@@ -257,7 +257,6 @@ def parser():
     for name in ("each", "for", "debit", "key"):
         acts[name].add_argument("option", nargs=argparse.REMAINDER)
     acts["defaults"].add_argument("book", choices=books.SHARDS)
-    acts["check"].add_argument("--topups", nargs="+", metavar="FILE")
     return top
 
 

@@ -291,8 +291,7 @@ def parser():
                         "--count COUNT --sum SUM --to FOLDER --url URL --name NAME", stock=STOCK,
                         settings=moneys.SETTINGS, count=int, to=".")
     it.add_argument("--list", nargs="?", const="", metavar="SHEET")
-    it.add_argument("--withdraw", nargs="+", metavar="WHAT")
-    return it
+    return program.add(it, "--withdraw WHAT..")
 
 
 def parsed(words):
