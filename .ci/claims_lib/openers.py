@@ -122,7 +122,7 @@ BY_EYE = (
     ),
     ("crates/acct_net/src/datagrams.rt", "send_waiting", "it sends the octets that it is given"),
 )
-MOST_BY_EYE = 209
+MOST_BY_EYE = 207
 MOST_OF_CHANGES = 120
 
 USE = re.compile(r"^\s*(?:pub(?:\([^)]*\))? )?use ([^;]+);", re.M)
@@ -193,7 +193,7 @@ def function_in(text, name):
 
 
 # What the prover holds a body to is not for a person's eye.
-CLAUSE = re.compile(r"\s*(?:ensures|requires|ghost use)\b")
+CLAUSE = re.compile(r"\s*(?:ensures|requires|ghost)\b")
 
 
 def by_eye():

@@ -14,6 +14,7 @@ use Rattle.acct_book.specs.Row.{RowFacts}
 use Rattle.acct_book.specs.Content.{Content, key_of}
 use Rattle.acct_book.specs.Maps.{octets_cmp, key_cmp}
 use Rattle.acct_book.specs.Walk.{AreAllPast, IsNext}
+use Rattle.std.specs.Io.KnownBytes.{Appends}
 use Rattle.acct_book.specs.Meets.{Meets}
 use Rattle.acct_book.proofs.WalkLaws.{walks-meet-all}
 use Rattle.acct_book.proofs.Walking.{walk_of}
@@ -21,13 +22,13 @@ use Rattle.acct_book_audit.specs.declared.statement.Statement.{Statement}
 use Rattle.acct_book_audit.specs.declared.auditor.Seen.{Seen}
 use Rattle.acct_book_audit.specs.declared.auditor.Audit.{Audit}
 use Rattle.acct_book_audit.specs.Balancing.{IsStatement}
-use Rattle.acct_book_audit.specs.Finding.{Finding, Grows}
+use Rattle.acct_book_audit.specs.Finding.{Finding}
 use Rattle.acct_book_audit.specs.Audit.{account_findings, session_findings, voucher_findings}
 use Rattle.acct_book_audit.specs.Audit.{Counts}
 use Rattle.acct_book_audit.specs.Audit.{AreAccounts, IsAudit}
 use Rattle.acct_book_audit.specs.inner.Walk.{octets_in, IsNextAccount, IsNextSession}
 use Rattle.acct_book_audit.specs.inner.Walk.{IsNextVoucher, session_found, voucher_found}
-use Rattle.acct_book_audit.proofs.Walking.{each_met, grows_then}
+use Rattle.acct_book_audit.proofs.Walking.{each_met, told_then}
 
 -- ---- lists
 
@@ -218,14 +219,16 @@ module _ (plans : List Plan) (content : Content) where
           found = λ i. same_accounts i ++ same_sessions i ++ same_vouchers i;
         }
 
-    pub audit_told : (a b c d : Option (List Finding))
-        → Grows a (flat_map account_found accounts) b → Grows b (flat_map session_told sessions) c
-        → Grows c (flat_map voucher_told vouchers) d → Grows a all_found d
-    audit_told a b c d first second third =
-        grows_then a c d (flat_map account_found accounts ++ flat_map session_told sessions)
+    pub audit_told : (words : Finding → List ℕ) (a b c d : Option (List ℕ))
+        → Appends a b (flat_map words (flat_map account_found accounts))
+        → Appends b c (flat_map words (flat_map session_told sessions))
+        → Appends c d (flat_map words (flat_map voucher_told vouchers))
+        → Appends a d (flat_map words all_found)
+    audit_told words a b c d first second third =
+        told_then words a c d (flat_map account_found accounts ++ flat_map session_told sessions)
         (flat_map voucher_told vouchers)
-        (grows_then a b c (flat_map account_found accounts) (flat_map session_told sessions) first
-        second) third
+        (told_then words a b c (flat_map account_found accounts) (flat_map session_told sessions)
+        first second) third
 
 -- the walks after the first began from a book with the same content
 pub audited : (plans : List Plan) (content second third : Content) (audit : Audit)

@@ -1,29 +1,19 @@
 -- What was found on a walk, and what holds of each member that a whole walk met.
 use Rattle.std.proofs.Common.{◌≡◌, ℕ, ◌+◌, List, [], ◌∷◌, ◌++◌, length, sym, ◌∙◌, ap, subst}
-use Rattle.std.proofs.Common.{append_assoc}
-use Rattle.std.specs.Prelude.{flat_map, Option, Some, None, Contains}
+use Rattle.std.specs.Prelude.{flat_map, Option, Some, Contains}
 use Rattle.std.proofs.Common.{inl, inr}
 use Rattle.acct_model.proofs.Lists.{nowhere, front_or_behind}
 use Rattle.std.proofs.lemmas.Grind.{flat_map-append}
 use Rattle.std.proofs.lemmas.List.{append-nil}
 use Rattle.std.proofs.Common.{length-append}
+use Rattle.std.specs.Io.KnownBytes.{Appends}
+use Rattle.std.proofs.KnownBytes.{Appends-trans}
 use Rattle.acct_book.specs.Meets.{Meets}
 use Rattle.acct_book_audit.specs.declared.auditor.Seen.{Seen}
-use Rattle.acct_book_audit.specs.Finding.{Finding, Grows}
+use Rattle.acct_book_audit.specs.Finding.{Finding}
 use Rattle.acct_book_audit.specs.Audit.{Counts}
 
 -- ---- what was reported
-
-pub grows_then : (a b c : Option (List Finding)) (x y : List Finding) → Grows a x b → Grows b y c
-    → Grows a (x ++ y) c
-grows_then a b None x y g h = tt
-grows_then a None (Some c) x y g h = absurd h
-grows_then None (Some b) (Some c) x y g h = absurd g
-grows_then (Some a) (Some b) (Some c) x y g h = h ∙ ap (λ t. t ++ y) g ∙ append_assoc a x y
-
-pub grows_nothing : (a : Option (List Finding)) → Grows a [] a
-grows_nothing None = tt
-grows_nothing (Some a) = sym (append-nil a)
 
 -- what is found of one more member
 pub found_more : {M : Type 0} (found : M → List Finding) (members : List M) (m : M)
@@ -32,15 +22,23 @@ found_more found members m =
     flat_map-append found members (m ∷ [])
     ∙ ap (λ t. flat_map found members ++ t) (append-nil (found m))
 
--- the findings of one more member were reported
-pub told_more : {M : Type 0} (found : M → List Finding) (members : List M) (m : M)
-    (a b c d : Option (List Finding)) → Grows a (flat_map found members) b → Grows b (found m) c
-    → Grows c [] d → Grows a (flat_map found (members ++ m ∷ [])) d
-told_more found members m a b c d before here after =
-    subst (λ t. Grows a t d) (append-nil (flat_map found members ++ found m)
-    ∙ sym (found_more found members m))
-    (grows_then a c d (flat_map found members ++ found m) []
-    (grows_then a b c (flat_map found members) (found m) before here) after)
+-- first these findings were told, and then those
+pub told_then : (words : Finding → List ℕ) (a b c : Option (List ℕ)) (these those : List Finding)
+    → Appends a b (flat_map words these) → Appends b c (flat_map words those)
+    → Appends a c (flat_map words (these ++ those))
+told_then words a b c these those first then =
+    subst (Appends a c) (sym (flat_map-append words these those))
+    (Appends-trans a b c (flat_map words these) (flat_map words those) first then)
+
+-- the findings of one more member were told
+pub told_more : {M : Type 0} (words : Finding → List ℕ) (found : M → List Finding)
+    (members : List M) (m : M) (a b c d : Option (List ℕ))
+    → Appends a b (flat_map words (flat_map found members)) → Appends b c (flat_map words (found m))
+    → d ≡ c → Appends a d (flat_map words (flat_map found (members ++ m ∷ [])))
+told_more words found members m a b c d before here same =
+    subst (λ it. Appends a it (flat_map words (flat_map found (members ++ m ∷ [])))) (sym same)
+    (subst (λ it. Appends a c (flat_map words it)) (sym (found_more found members m))
+    (told_then words a b c (flat_map found members) (found m) before here))
 
 -- one more member was counted
 pub counts_more : {M : Type 0} (found : M → List Finding) (members : List M) (m : M)

@@ -1,5 +1,5 @@
--- What an audit finds, and what of it an auditor received.
-use Rattle.std.specs.Prelude.{◌≡◌, ℕ, List, ◌++◌, Option, Some, None}
+-- What an audit finds.
+use Rattle.std.specs.Prelude.{ℕ, List}
 use Rattle.acct_model.specs.Vouchers.{TopUpFacts}
 use Rattle.acct_book.specs.Row.{RowFacts}
 use Rattle.acct_book_audit.specs.declared.statement.Statement.{Statement}
@@ -11,9 +11,3 @@ pub data Finding : Type 0 where
   StraySession : RowFacts → Finding
   -- no balance is kept for the account of a voucher
   StrayVoucher : TopUpFacts → Finding
-
--- The list grew by these at its end, if it is still known. A list that was not known stays so.
-abbrev pub Grows : Option (List Finding) → List Finding → Option (List Finding) → Type 0
-Grows old found None = Unit {0}
-Grows None found (Some new) = ⊥
-Grows (Some old) found (Some new) = new ≡ old ++ found

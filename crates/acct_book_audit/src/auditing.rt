@@ -1,9 +1,10 @@
 //! The audit of a whole book.
-ghost use Rattle.std.specs.Prelude.{◌≡◌, ◌↔◌, List, Option, None, IfOk, OnOk, ℕ};
+ghost use Rattle.std.specs.Prelude.{◌≡◌, ◌↔◌, List, Option, None, IfOk, OnOk, ℕ, flat_map};
+ghost use Rattle.std.specs.Io.KnownBytes.{Appends};
 ghost use Rattle.acct_book.specs.Step.{Looks};
 ghost use Rattle.acct_book.specs.Content.{key_of as key_of_row};
 ghost use Rattle.acct_book_audit.specs.Balancing.{IsBalanced};
-ghost use Rattle.acct_book_audit.specs.Finding.{Finding, Grows};
+ghost use Rattle.acct_book_audit.specs.Finding.{Finding};
 ghost use Rattle.acct_book_audit.specs.Audit.{IsAudit, IsClean, account_findings};
 ghost use Rattle.acct_book_audit.specs.inner.Walk.{IsNextAccount, IsNextSession, IsNextVoucher};
 ghost use Rattle.acct_book_audit.specs.inner.Walk.{session_found, voucher_found};
@@ -38,7 +39,7 @@ pub fn audit<B: Book, A: Auditor>(
     ensures looks { Looks B.Book book.old book.new result }
     ensures audited { B.is_open book.new → IfOk result (λ audit. (found : List Finding)
         × IsAudit plans.now (B.content book.old) audit found
-        × Grows (A.told auditor.old) found (A.told auditor.new)) }
+        × Appends (A.told auditor.old) (A.told auditor.new) (flat_map A.words found)) }
     ensures clean { B.is_open book.new → IfOk result (λ audit. IsClean audit
         ↔ ((account : List ℕ) → IsBalanced plans.now (B.content book.old) account)) }
 {

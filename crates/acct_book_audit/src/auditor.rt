@@ -1,7 +1,7 @@
 //! The receiver of an audit's findings, and the result of an audit.
-ghost use Rattle.std.specs.Prelude.{◌≡◌, ◌↔◌, [], ◌∷◌, List, Option, OnOk, IsTrue};
+ghost use Rattle.std.specs.Prelude.{◌≡◌, ◌↔◌, ℕ, List, Option, OnOk, IsTrue};
+ghost use Rattle.std.specs.Io.KnownBytes.{Appends};
 ghost use Rattle.acct_book_audit.specs.Finding.{Finding, WrongAccount, StraySession, StrayVoucher};
-ghost use Rattle.acct_book_audit.specs.Finding.{Grows};
 
 use crate::statement::Statement;
 use acct_book::{Row, Unavailable};
@@ -12,27 +12,30 @@ pub trait Auditor {
     /// Why the auditor stops the audit.
     type Error: From<Unavailable>;
 
-    /// The findings that it received, the oldest first, if they are known.
-    ghost told: { Self → Option (List Finding) };
+    /// How it tells a finding.
+    ghost words: { Finding → List ℕ };
+
+    /// What it has told, if that is known.
+    ghost told: { Self → Option (List ℕ) };
 
     /// Receives an account whose balance is not right, by its statement.
     fn tell_account(&mut self, account: &[u8], statement: &Statement) -> Result<(), Self::Error>
-        ensures { OnOk result (Grows (told self.old)
-            (WrongAccount account.now statement.now ∷ []) (told self.new)) };
+        ensures { OnOk result (Appends (told self.old) (told self.new)
+            (words (WrongAccount account.now statement.now))) };
 
     /// Receives a session for whose account no balance is kept.
     fn tell_session(&mut self, row: &Row) -> Result<(), Self::Error>
-        ensures { OnOk result (Grows (told self.old) (StraySession row.now ∷ [])
-            (told self.new)) };
+        ensures { OnOk result (Appends (told self.old) (told self.new)
+            (words (StraySession row.now))) };
 
     /// Receives a voucher for whose account no balance is kept.
     fn tell_voucher(&mut self, topup: &TopUp) -> Result<(), Self::Error>
-        ensures { OnOk result (Grows (told self.old) (StrayVoucher topup.now ∷ [])
-            (told self.new)) };
+        ensures { OnOk result (Appends (told self.old) (told self.new)
+            (words (StrayVoucher topup.now))) };
 
     /// Receives how many of a kind were seen so far.
     fn go_on(&mut self, kind: Kind, count: u64)
-        ensures { Grows (told self.old) [] (told self.new) };
+        ensures { told self.new ≡ told self.old };
 }
 
 /// What an audit goes through, one kind after the other.

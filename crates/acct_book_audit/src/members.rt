@@ -1,10 +1,11 @@
 //! The walk through the members of a book that an audit reads.
 ghost use Rattle.std.specs.Prelude.{◌≡◌, List, Option, None, IfOk, OnOk, flat_map, length, ◌≤◌};
+ghost use Rattle.std.specs.Io.KnownBytes.{Appends};
 ghost use Rattle.acct_model.specs.declared.plan.Plan.{Plan};
 ghost use Rattle.acct_book.specs.Content.{Content};
 ghost use Rattle.acct_book.specs.Meets.{Meets};
 ghost use Rattle.acct_book.specs.Step.{Looks};
-ghost use Rattle.acct_book_audit.specs.Finding.{Finding, Grows};
+ghost use Rattle.acct_book_audit.specs.Finding.{Finding};
 ghost use Rattle.acct_book_audit.specs.Audit.{Counts};
 
 use crate::auditor::{Auditor, Kind, Seen};
@@ -45,8 +46,8 @@ pub(crate) trait Members {
 
     /// Reports what is wrong with a member, and returns the number of findings.
     fn tell<A: Auditor>(auditor: &mut A, member: &Self::Member) -> Result<u64, A::Error>
-        ensures told { OnOk result (Grows (A.told auditor.old) (found_of member.now)
-            (A.told auditor.new)) }
+        ensures told { OnOk result (Appends (A.told auditor.old) (A.told auditor.new)
+            (flat_map A.words (found_of member.now))) }
         ensures count { IfOk result (λ count. count ≡ length (found_of member.now)) }
         ensures most { IfOk result (λ count. count ≤ 1) };
 
@@ -72,7 +73,8 @@ pub(crate) fn audit_members<M: Members, B: Book, A: Auditor>(
         × (B.is_open book.new
         → Meets (M.is_next plans.now (B.content book.old)) M.key_of None members)
         × Counts seen (length members) (length (flat_map M.found_of members))
-        × Grows (A.told auditor.old) (flat_map M.found_of members) (A.told auditor.new)) }
+        × Appends (A.told auditor.old) (A.told auditor.new)
+        (flat_map A.words (flat_map M.found_of members))) }
 {
     let mut seen = Seen { all: 0, wrong: 0 };
     let mut after: Option<M::Key> = None;

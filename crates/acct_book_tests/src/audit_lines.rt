@@ -1,5 +1,5 @@
 //! An auditor that writes a line for each finding.
-ghost use Rattle.std.specs.Prelude.{None};
+ghost use Rattle.std.specs.Prelude.{None, []};
 
 use acct_book::{Row, Unavailable};
 use acct_book_audit::{Auditor, Kind, Statement};
@@ -69,6 +69,8 @@ impl Lines {
 
 impl Auditor for Lines {
     type Error = Ends;
+
+    ghost words = { λ _. [] };
 
     ghost told = { λ _. None };
 

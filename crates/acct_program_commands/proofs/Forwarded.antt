@@ -1,20 +1,24 @@
 -- What a run of `forward` did to its book.
 use Rattle.std.proofs.Common.{◌≡◌, ◌⊎◌, Bool, true, false, List, [], refl, sym, ap, ◌∙◌, subst, inl}
 use Rattle.std.proofs.Common.{inr, true≢false}
-use Rattle.std.specs.Prelude.{Result, Err, OnOk}
+use Rattle.std.specs.Prelude.{Result, Ok, Err, OnOk, is_some}
 use Rattle.acct_model.specs.declared.plan.Plan.{Plan}
 use Rattle.acct_book.specs.declared.book.Book.{Ghosts}
-use Rattle.acct_book_forward.specs.Carrying.{SelectionFacts, CarriesOn}
+use Rattle.std.specs.Io.KnownBytes.{Appends}
+use Rattle.std.proofs.KnownBytes.{Appends-trans}
+use Rattle.acct_book_forward.specs.Carrying.{SelectionFacts, CarriesOn, CountsOn, CountsUpTo}
 use Rattle.acct_book.specs.Content.{Content, HasOwnKeys}
 use Rattle.acct_book.specs.Row.{RowFacts}
 use Rattle.acct_book.specs.declared.key.Key.{Key}
 use Rattle.acct_book.specs.Stands.{Stands}
 use Rattle.acct_book.specs.Step.{OnlyLooks}
-use Rattle.acct_book_forward.proofs.CarriedOn.{joined_on, told_on}
+use Rattle.acct_book_forward.proofs.CarriedOn.{counts_since, counts_up, joined_on, told_on}
 use Rattle.acct_program_args.specs.declared.job.Carrying.{Carrying}
 use Rattle.acct_program_commands.specs.Forwarding.{selected, Forwards, LiesFarBack, IsTimely}
 use Rattle.acct_program_commands.specs.Forwarding.{IsHeardOf, IsHeardIn, MayCarry}
-use Rattle.std.proofs.Common.{ℕ, Option, Some, ◌≢◌}
+use Rattle.acct_program_commands.specs.Survey.{CountsAll, Lists, TellsForward, totals_text}
+use Rattle.acct_program_commands.specs.declared.forward_command.Totals.{Totals}
+use Rattle.std.proofs.Common.{ℕ, Option, Some, ◌≢◌, arith}
 
 -- calls that only read carry nothing
 only_on : {B T E : Type 0} (b : Ghosts B) (selection : SelectionFacts) (plans : List Plan)
@@ -122,3 +126,63 @@ forwards_then b plans carrying moment written_at old mid new r ended looks still
         (looks.same (still (f.carries.was_sound sound))) (is_timely sound)))
   ];
 }
+
+-- calls that only read carried no session
+pub looked_on : {B : Type 0} (b : Ghosts B) (selection : SelectionFacts) (plans : List Plan)
+    (old new : B) → OnlyLooks b old new → CountsOn b selection plans old new 0
+looked_on b selection plans old new looks still history stands =
+    ([], history, refl, subst (λ c. Stands plans c history) (sym (looks.same still)) stands, refl)
+
+-- first the book was read, and then so many sessions were carried
+pub looked_then : {B : Type 0} (b : Ghosts B) (selection : SelectionFacts) (plans : List Plan)
+    (old mid new : B) (count : ℕ) → OnlyLooks b old mid → (b.is_open new → b.is_open mid)
+    → CountsUpTo b selection plans mid new count → CountsUpTo b selection plans old new count
+looked_then b selection plans old mid new count looks was counts =
+    counts_since b selection plans old mid new count was
+    (looked_on b selection plans old mid looks) counts
+
+-- so many sessions were carried, and then the book was only read
+pub counts_still : {B : Type 0} (b : Ghosts B) (selection : SelectionFacts) (plans : List Plan)
+    (old mid new : B) (count : ℕ) → (b.is_open new → b.is_open mid)
+    → CountsUpTo b selection plans old mid count → CountsUpTo b selection plans mid new 0
+    → CountsUpTo b selection plans old new count
+counts_still b selection plans old mid new count was first second still history stands =
+    let (these, later, chosen, there, few) = first (was still) history stands in
+    counts_up b selection plans old mid new count 0 count was (omega (arith, few)) first second
+    still history stands
+
+-- an answer is one
+pub ok_same : {E : Type 0} (one other : Totals) (is : Result Totals E) → is ≡ Ok one
+    → is ≡ Ok other → one ≡ other
+ok_same one other is same also = cc
+
+module _ {B : Type 0} (b : Ghosts B) (plans : List Plan) (carrying : Carrying) (moment : ℕ)
+    (old mid new : B) (first second third : Option (List ℕ)) (found totals : Totals) where
+  abbrev wanted : SelectionFacts
+  wanted = selected carrying moment
+
+  -- what was listed, and then the totals
+  pub tells_forward : OnlyLooks b old mid → (b.is_open new → b.is_open mid)
+      → (b.is_open mid → CountsAll wanted (b.content old) found)
+      → (b.is_open mid → (text : List ℕ) × Lists (is_some carrying.silent) wanted (b.content old) text
+      × Appends first second text)
+      → (carrying.is_dry ≡ true → totals ≡ found)
+      → (found.sessions.carried ≡ 0 → totals ≡ found)
+      → (carrying.is_dry ≡ false → CountsUpTo b wanted plans mid new totals.sessions.carried)
+      → Appends second third (totals_text carrying.is_dry totals)
+      → b.is_open new → TellsForward b plans carrying moment first third old new
+  tells_forward looks was counts lists dry none carried printed still =
+      let (text, listed, appends) = lists (was still) in
+      record {
+        listed = text;
+        lists = listed;
+        found = found;
+        counts = counts (was still);
+        totals = totals;
+        printed = Appends-trans first second third text (totals_text carrying.is_dry totals)
+            appends printed;
+        dry = dry;
+        none = none;
+        carried = λ wet. looked_then b wanted plans old mid new totals.sessions.carried looks was
+            (carried wet);
+      }

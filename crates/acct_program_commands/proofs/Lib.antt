@@ -6,6 +6,8 @@ pub mod Places
 pub mod Elements
 -- what a run of `forward` did to its book
 pub mod Forwarded
+-- what a survey over the accounts of a book has counted and printed
+pub mod Surveyed
 -- what the end of an audit means
 pub mod Audited
 -- what is put in the place of a file

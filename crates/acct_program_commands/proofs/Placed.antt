@@ -1,8 +1,8 @@
 -- A file that was rewritten in one way was rewritten in each way that this one gives.
-use Rattle.std.specs.Prelude.{◌≡◌, ⊤, ℕ, List, Option, Some, None, Result, Ok, Err, OnOk, is_err, false}
-use Rattle.acct_model.specs.declared.plan.Plan.{Plan}
+use Rattle.std.specs.Prelude.{◌≡◌, ⊤, ℕ, List, Option, Some, None, Result, Ok, Err, OnOk}
+use Rattle.std.specs.Prelude.{is_err, false}
 use Rattle.acct_book.specs.Content.{Content}
-use Rattle.acct_program_commands.specs.Placed.{IsPut, PutsBalances}
+use Rattle.acct_program_commands.specs.Placed.{IsPut, PutsBalances, balances_text}
 use Rattle.acct_program_commands.specs.Rounds.{KeepsAt}
 use Rattle.acct_program_commands.specs.declared.fresh_file.FreshFile.{FreshFile}
 
@@ -17,15 +17,14 @@ keeps_however One Other so moment (Some old) (Some new) (due, idle) = (
 )
 
 -- what has all balances is some file
-pub puts_some : (Put : Option (List ℕ) → Type 0) (plans : List Plan) (content : Content)
-    (told : Type 0) → PutsBalances Put plans content told → IsPut Put
-puts_some Put plans content told (empty, octets, at_first, written, put) = (octets, put)
+puts_some : (Put : List ℕ → Type 0) (content : Content) (told : Type 0)
+    → PutsBalances Put content told → IsPut Put
+puts_some Put content told (entries, all, put) = (balances_text entries, put)
 
 -- the content is known if the book is open
-pub puts_known : (Put : Option (List ℕ) → Type 0) (plans : List Plan) (content : Content)
-    (told : Type 0) → told → PutsBalances Put plans content told → PutsBalances Put plans content ⊤
-puts_known Put plans content told is_told (empty, octets, at_first, (entries, appends, all), put) =
-    (empty, octets, at_first, (entries, appends, λ known. all is_told), put)
+puts_known : (Put : List ℕ → Type 0) (content : Content) (told : Type 0) → told
+    → PutsBalances Put content told → PutsBalances Put content ⊤
+puts_known Put content told is_told (entries, all, put) = (entries, λ known. all is_told, put)
 
 -- what was put by a write that did not fail
 pub put_if_fine : {T E P : Type 0} (written : Result T E) → OnOk written P
@@ -33,16 +32,14 @@ pub put_if_fine : {T E P : Type 0} (written : Result T E) → OnOk written P
 put_if_fine (Ok done) put fine = put
 put_if_fine (Err fault) put fine = absurd (cc)
 
-module _ (Put : List ℕ → Option (List ℕ) → Type 0) (plans : List Plan) (content : Content)
-    (told : Type 0) (moment : ℕ) (old new : Option FreshFile)
-    (keeps : KeepsAt (λ name. PutsBalances (Put name) plans content told) moment old new) where
+module _ (Put : List ℕ → List ℕ → Type 0) (content : Content) (told : Type 0) (moment : ℕ)
+    (old new : Option FreshFile)
+    (keeps : KeepsAt (λ name. PutsBalances (Put name) content told) moment old new) where
   pub keeps_some : KeepsAt (λ name. IsPut (Put name)) moment old new
-  keeps_some = keeps_however (λ name. PutsBalances (Put name) plans content told)
-      (λ name. IsPut (Put name)) (λ name. puts_some (Put name) plans content told) moment old new
-      keeps
+  keeps_some = keeps_however (λ name. PutsBalances (Put name) content told)
+      (λ name. IsPut (Put name)) (λ name. puts_some (Put name) content told) moment old new keeps
 
-  pub keeps_known : told
-      → KeepsAt (λ name. PutsBalances (Put name) plans content ⊤) moment old new
-  keeps_known is_told = keeps_however (λ name. PutsBalances (Put name) plans content told)
-      (λ name. PutsBalances (Put name) plans content ⊤)
-      (λ name. puts_known (Put name) plans content told is_told) moment old new keeps
+  pub keeps_known : told → KeepsAt (λ name. PutsBalances (Put name) content ⊤) moment old new
+  keeps_known is_told = keeps_however (λ name. PutsBalances (Put name) content told)
+      (λ name. PutsBalances (Put name) content ⊤)
+      (λ name. puts_known (Put name) content told is_told) moment old new keeps

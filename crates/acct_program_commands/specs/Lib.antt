@@ -18,6 +18,7 @@ pub mod Placed
 pub mod RoundStates
 pub mod Rounds
 pub mod Sights
+pub mod Survey
 pub mod Tally
 pub mod Told
 pub mod Unwritten

@@ -1,8 +1,13 @@
 //! `check --audit`: compares each balance of a book with its vouchers and sessions.
-ghost use Rattle.std.specs.Prelude.{◌≡◌, ◌≢◌, ◌↔◌, None, IfOk, IfErr};
+ghost use Rattle.std.specs.Prelude.{◌≡◌, ◌≢◌, ◌↔◌, List, IfOk, IfErr, OnOk};
+ghost use Rattle.std.specs.Prelude.{flat_map, string_bytes};
+ghost use Rattle.std.specs.Io.KnownBytes.{Appends};
+ghost use Rattle.acct_model.specs.Shown.{shown};
 ghost use Rattle.acct_book.specs.Step.{Looks};
-ghost use Rattle.acct_book_audit.specs.Audit.{IsClean};
-ghost use Rattle.acct_program_commands.specs.Auditing.{Audits, AllBalance};
+ghost use Rattle.acct_book_audit.specs.Audit.{IsAudit, IsClean};
+ghost use Rattle.acct_book_audit.specs.Finding.{Finding, StraySession, StrayVoucher, WrongAccount};
+ghost use Rattle.acct_program_commands.specs.Auditing.{Audits, AllBalance, finding_line};
+ghost use Rattle.acct_program_commands.specs.Auditing.{balance_text, balanced_line, unplanned_text};
 ghost use Rattle.acct_program_commands.specs.inner.Stops.{stopped_fault};
 
 use crate::check::write_sizes;
@@ -22,60 +27,81 @@ const STEP: u64 = 100_000;
 /// Prints the sizes of a configuration. Then compares each balance of a book with its vouchers and
 /// sessions, by the configuration's plans (`acct_book_audit::audit`). It prints each account that
 /// is wrong, and each session or voucher of an account without a balance. If there is none, it
-/// prints how many of each there are. `progress` gets a line now and then.
+/// prints how many of each there are. `progress` gets a line now and then. Returns how it ended, and
+/// the output.
 ///
 /// # Errors
 ///
 /// `Unbalanced` if something is wrong, `Store` if the book fails, `NoMemory`, `CannotWrite`. The
 /// book does not change.
-pub fn run_audit<B: Book, W: Write, E: Write>(
+pub fn run_audit<B: Book, W: Write + Drop, E: Write + Drop>(
     alloc: Global,
     config: &Config,
     book: &mut B,
-    output: &mut W,
-    progress: &mut E,
-) -> Result<Status, Fault>
-    ensures done { IfOk result (λ status. status ≡ Status.Done) }
-    ensures audits { Audits B.Book config.now.plans book.old book.new result }
-{
-    write_sizes(output, config)?;
-    let audit = audited(alloc, config, book, output, progress)?;
-    if !audit.is_clean() {
-        return Err(Fault::Unbalanced);
-    }
-    write_balanced(output, &audit)?;
-    Ok(Status::Done)
-}
-
-// Audits a book, and prints what is wrong.
-fn audited<B: Book, W: Write, E: Write>(
-    alloc: Global,
-    config: &Config,
-    book: &mut B,
-    output: &mut W,
-    progress: &mut E,
-) -> Result<Audit, Fault>
-    ensures looks { Looks B.Book book.old book.new result }
-    ensures clean { B.is_open book.new → IfOk result (λ audit.
-        IsClean audit ↔ AllBalance config.now.plans (B.content book.old)) }
-    ensures why { IfErr result (λ told. told ≢ Fault.Unbalanced) }
+    output: W,
+    progress: E,
+) -> (Result<Status, Fault>, W)
+    ensures done { IfOk result.0 (λ status. status ≡ Status.Done) }
+    ensures audits { Audits B.Book config.now (W.contents output) (W.contents result.1) book.old
+        book.new result.0 }
 {
     let mut findings = Findings {
         alloc,
         output,
         progress,
     };
-    match audit(alloc, book, &config.plans, &mut findings) {
-        Ok(audit) => match findings.output.flush() {
-            Ok(()) => Ok(audit),
-            Err(_) => Err(Fault::CannotWrite),
-        },
+    let ended = print_audit(config, book, &mut findings);
+    (ended, findings.output)
+}
+
+// Audits a book, and prints the sizes of its configuration, what is wrong, and at the end how many
+// of each there are.
+fn print_audit<B: Book, W: Write, E: Write>(
+    config: &Config,
+    book: &mut B,
+    findings: &mut Findings<W, E>,
+) -> Result<Status, Fault>
+    ensures done { IfOk result (λ status. status ≡ Status.Done) }
+    ensures audits { Audits B.Book config.now (W.contents findings.old.output)
+        (W.contents findings.new.output) book.old book.new result }
+{
+    write_sizes(&mut findings.output, config)?;
+    let audit = audited(config, book, findings)?;
+    findings.output.flush()?;
+    if !audit.is_clean() {
+        return Err(Fault::Unbalanced);
+    }
+    write_balanced(&mut findings.output, &audit)?;
+    findings.output.flush()?;
+    Ok(Status::Done)
+}
+
+// Audits a book, and prints what is wrong.
+fn audited<B: Book, W: Write, E: Write>(
+    config: &Config,
+    book: &mut B,
+    findings: &mut Findings<W, E>,
+) -> Result<Audit, Fault>
+    ensures looks { Looks B.Book book.old book.new result }
+    ensures clean { B.is_open book.new → IfOk result (λ audit.
+        IsClean audit ↔ AllBalance config.now.plans (B.content book.old)) }
+    ensures told { B.is_open book.new → IfOk result (λ audit. (found : List Finding)
+        × IsAudit config.now.plans (B.content book.old) audit found
+        × Appends (W.contents findings.old.output) (W.contents findings.new.output)
+        (flat_map finding_line found)) }
+    ensures why { IfErr result (λ told. told ≢ Fault.Unbalanced) }
+{
+    match audit(findings.alloc, book, &config.plans, findings) {
+        Ok(audit) => Ok(audit),
         Err(why) => Err(fault_of(why)),
     }
 }
 
 // Prints how many members a balanced book has.
-fn write_balanced<W: Write>(output: &mut W, audit: &Audit) -> io::Result<()> {
+fn write_balanced<W: Write>(output: &mut W, audit: &Audit) -> io::Result<()>
+    ensures { OnOk result (Appends (W.contents output.old) (W.contents output.new)
+        (balanced_line audit.now)) }
+{
     let (accounts, sessions, vouchers) = (
         audit.accounts.all,
         audit.sessions.all,
@@ -84,8 +110,7 @@ fn write_balanced<W: Write>(output: &mut W, audit: &Audit) -> io::Result<()> {
     writeln!(
         output,
         "balanced: {accounts} accounts, {sessions} sessions, {vouchers} vouchers"
-    )?;
-    output.flush()
+    )
 }
 
 // Why an audit stopped.
@@ -143,54 +168,114 @@ fn fault_of(why: Stopped) -> Fault
     }
 }
 
-// Where the findings and the progress of an audit are printed.
-#[derive(Drop)]
-struct Findings<'w, W, E> {
+// Prints an account whose balance is not right, by its statement.
+fn write_account<W: Write>(
     alloc: Global,
-    output: &'w mut W,
-    progress: &'w mut E,
+    output: &mut W,
+    account: &[u8],
+    statement: &Statement,
+) -> Result<(), Stopped>
+    ensures { OnOk result (Appends (W.contents output.old) (W.contents output.new)
+        (finding_line (WrongAccount account.now statement.now))) }
+{
+    write_balance(alloc, output, account, statement)?;
+    write_unplanned(output, statement.unplanned)?;
+    writeln!(output)?;
+    Ok(())
 }
 
-impl<'w, W: Write, E: Write> Auditor for Findings<'w, W, E> {
+// Prints the balance of an account, and what its vouchers and sessions come to.
+fn write_balance<W: Write>(
+    alloc: Global,
+    output: &mut W,
+    account: &[u8],
+    statement: &Statement,
+) -> Result<(), Stopped>
+    ensures { OnOk result (Appends (W.contents output.old) (W.contents output.new)
+        (balance_text account.now statement.now)) }
+{
+    let account = shown(alloc, account)?;
+    let balance = statement.balance.unwrap_or(0);
+    let (vouchers, sessions) = (statement.credited, statement.charged);
+    write!(
+        output,
+        "{account}: balance {balance}, vouchers {vouchers}, sessions {sessions}"
+    )?;
+    Ok(())
+}
+
+// Prints how many sessions of an account are of no plan, if some are.
+fn write_unplanned<W: Write>(output: &mut W, count: u64) -> io::Result<()>
+    ensures { OnOk result (Appends (W.contents output.old) (W.contents output.new)
+        (unplanned_text count)) }
+{
+    if count == 0 {
+        return Ok(());
+    }
+    write!(output, ", and {count} sessions of no plan")
+}
+
+// Prints a session for whose account no balance is kept.
+fn write_session<W: Write>(alloc: Global, output: &mut W, row: &Row) -> Result<(), Stopped>
+    ensures { OnOk result (Appends (W.contents output.old) (W.contents output.new)
+        (finding_line (StraySession row.now))) }
+{
+    let client = row.client.as_str();
+    let session = shown(alloc, row.session.as_slice())?;
+    let account = shown(alloc, row.account.as_slice())?;
+    writeln!(
+        output,
+        "{account}: no balance, and the session {client} {session}"
+    )?;
+    Ok(())
+}
+
+// Prints a voucher for whose account no balance is kept.
+fn write_voucher<W: Write>(alloc: Global, output: &mut W, topup: &TopUp) -> Result<(), Stopped>
+    ensures { OnOk result (Appends (W.contents output.old) (W.contents output.new)
+        (finding_line (StrayVoucher topup.now))) }
+{
+    let number = topup.voucher.as_str();
+    let account = shown(alloc, topup.account.as_slice())?;
+    writeln!(output, "{account}: no balance, and the voucher {number}")?;
+    Ok(())
+}
+
+// Octets as text.
+fn shown(alloc: Global, octets: &[u8]) -> Result<String, Stopped>
+    ensures { IfOk result (λ text. string_bytes text ≡ shown octets.now) }
+{
+    match show(alloc, octets) {
+        Ok(text) => Ok(text),
+        Err(_) => Err(Stopped::Memory),
+    }
+}
+
+// Where the findings and the progress of an audit are printed.
+#[derive(Drop)]
+struct Findings<W, E> {
+    alloc: Global,
+    output: W,
+    progress: E,
+}
+
+impl<W: Write, E: Write> Auditor for Findings<W, E> {
     type Error = Stopped;
 
-    ghost told = { λ _. None };
+    ghost words = { finding_line };
+
+    ghost told = { λ it. W.contents it.output };
 
     fn tell_account(&mut self, account: &[u8], statement: &Statement) -> Result<(), Stopped> {
-        let account = show(self.alloc, account)?;
-        let balance = statement.balance.unwrap_or(0);
-        let (vouchers, sessions) = (statement.credited, statement.charged);
-        write!(
-            self.output,
-            "{account}: balance {balance}, vouchers {vouchers}, sessions {sessions}"
-        )?;
-        if statement.unplanned > 0 {
-            let unplanned = statement.unplanned;
-            write!(self.output, ", and {unplanned} sessions of no plan")?;
-        }
-        writeln!(self.output)?;
-        Ok(())
+        write_account(self.alloc, &mut self.output, account, statement)
     }
 
     fn tell_session(&mut self, row: &Row) -> Result<(), Stopped> {
-        let client = row.client.as_str();
-        let session = show(self.alloc, row.session.as_slice())?;
-        let account = show(self.alloc, row.account.as_slice())?;
-        writeln!(
-            self.output,
-            "{account}: no balance, and the session {client} {session}"
-        )?;
-        Ok(())
+        write_session(self.alloc, &mut self.output, row)
     }
 
     fn tell_voucher(&mut self, topup: &TopUp) -> Result<(), Stopped> {
-        let number = topup.voucher.as_str();
-        let account = show(self.alloc, topup.account.as_slice())?;
-        writeln!(
-            self.output,
-            "{account}: no balance, and the voucher {number}"
-        )?;
-        Ok(())
+        write_voucher(self.alloc, &mut self.output, topup)
     }
 
     fn go_on(&mut self, kind: Kind, count: u64) {

@@ -59,7 +59,7 @@ impl<'r, R: ReplacesFiles> KeptBalances<'r, R> {
     )
         ensures looks { OnlyLooks B.Book book.old book.new }
         ensures due { IsDue self.old.file.pause self.old.file.begun_at moment
-            → Rewrites (λ name. PutsBalances (R.was_put name) plans.now (B.content book.old)
+            → Rewrites (λ name. PutsBalances (R.was_put name) (B.content book.old)
             (B.is_open book.new)) moment self.old.file self.new.file }
         ensures idle { ¬ IsDue self.old.file.pause self.old.file.begun_at moment
             → self.new.file ≡ self.old.file }
@@ -112,8 +112,8 @@ fn write_file<R: ReplacesFiles, B: Book>(
     book: &mut B,
 ) -> Result<(u64, u64), Fault>
     ensures looks { OnlyLooks B.Book book.old book.new }
-    ensures put { OnOk result (PutsBalances (R.was_put file.now.name) plans.now
-        (B.content book.old) (B.is_open book.new)) }
+    ensures put { OnOk result (PutsBalances (R.was_put file.now.name) (B.content book.old)
+        (B.is_open book.new)) }
 {
     let written = write_rows(alloc, plans, book, file.begin(runtime)?)?;
     let counts = (written.accounts(), written.overdrawn());

@@ -4,8 +4,8 @@
 //! read: `.ci/claims` fails if another source can make one. Only the store writes a book's two
 //! files, and the contracts on it say what it leaves of them.
 ghost use Rattle.std.specs.Prelude.{◌≡◌, ⊤, ℕ, List, Option, None, IfOk, OnOk, true, false};
+ghost use Rattle.std.specs.Io.KnownBytes.{Appends};
 ghost use Rattle.std.specs.Fs.{asks_create, asks_create_new, asks_truncate};
-ghost use Rattle.acct_program_commands.specs.Placed.{IsEmpty};
 
 use acct_reads::ReadsFiles;
 use std::fs::{Files, OpenFile, OpenOptions, Permissions};
@@ -18,18 +18,22 @@ pub trait ReplacesFiles: ReadsFiles {
     /// A file that is being written.
     type Writer: Write + Drop;
 
-    /// A file was put at this name, and had these octets, if they are known. Only `put_in_place`
-    /// gives this.
-    ghost was_put: { List ℕ → Option (List ℕ) → Type 0 };
+    /// What a file has that was just opened, if that is known.
+    ghost fresh: { Option (List ℕ) };
+
+    /// A file was put at this name into which this text was written, and nothing else. Only
+    /// `put_in_place` gives this.
+    ghost was_put: { List ℕ → List ℕ → Type 0 };
 
     /// Opens an empty file, and gives it a mode. If there is a file of this name, it is emptied.
     fn open_empty(&self, name: &str, mode: u32) -> io::Result<Self::Writer>
-        ensures empty { IfOk result (λ file. IsEmpty (Self.Writer.contents file)) };
+        ensures fresh { IfOk result (λ file. Self.Writer.contents file ≡ fresh) };
 
     /// Closes a file that was written as `new_name`, and gives it the name of another one, which is
     /// gone by that. Whoever opens a file by this name finds one of the two, and it is whole.
     fn put_in_place(&self, file: Self::Writer, new_name: &str, name: &str) -> io::Result<()>
-        ensures put { OnOk result (was_put name.now (Self.Writer.contents file)) };
+        ensures put { OnOk result ((text : List ℕ)
+            → Appends fresh (Self.Writer.contents file) text → was_put name.now text) };
 }
 
 /// The files of the system, to be made.
@@ -57,6 +61,8 @@ impl<F: Write + Drop> Write for NewFile<F> {
 
 impl<R: Files> ReplacesFiles for R {
     type Writer = NewFile<R::File>;
+
+    ghost fresh = { None };
 
     ghost was_put = { λ _ _. ⊤ };
 

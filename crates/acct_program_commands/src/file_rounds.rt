@@ -80,7 +80,7 @@ impl<'r, R: ReplacesFiles, S: SiteSource + Drop, E: Write + Drop> Rounds
         (state_of S.polls S.moments old) gave (state_of S.polls S.moments new) };
 
     ghost shows = { λ old config content gave new.
-        GoesRound (λ name. PutsBalances (R.was_put name) config.plans content ⊤) config.plans
+        GoesRound (λ name. PutsBalances (R.was_put name) content ⊤) config.plans
         (state_of S.polls S.moments old) gave (state_of S.polls S.moments new) };
 
     ghost is_over = { λ _. false };
@@ -130,9 +130,8 @@ pub fn keep_at<R: ReplacesFiles, B: Book, E: Write>(
     errors: &mut E,
 )
     ensures looks { OnlyLooks B.Book book.old book.new }
-    ensures keeps { KeepsAt (λ name. PutsBalances (R.was_put name) config.now.plans
-        (B.content book.old) (B.is_open book.new)) moment (file_of balances.old)
-        (file_of balances.new) }
+    ensures keeps { KeepsAt (λ name. PutsBalances (R.was_put name) (B.content book.old)
+        (B.is_open book.new)) moment (file_of balances.old) (file_of balances.new) }
 {
     if let Some(balances) = balances {
         balances.keep(alloc, &config.plans, book, moment, gauges, errors);

@@ -4,16 +4,26 @@
 //! carried, and looks for a session that was heard of lately. If open sessions may be carried, the
 //! second one prints these: a clock that may be wrong prints none. The last one carries.
 ghost use Rattle.std.specs.Prelude.{◌≡◌, ◌≢◌, ◌↔◌, ◌⊎◌, ◌≤◌, ◌<◌, ◌+◌, ◌*◌, ◌^◌, true};
-ghost use Rattle.std.specs.Prelude.{IfErr, IfOk, IfSome, IsTrue, OnOk, false};
+ghost use Rattle.std.specs.Prelude.{IfErr, IfOk, IfSome, IsTrue, OnOk, Ok, Some, List, ℕ};
+ghost use Rattle.std.specs.Prelude.{false, flat_map, string_bytes};
+ghost use Rattle.std.specs.Io.KnownBytes.{Appends};
+ghost use Rattle.acct_model.specs.Shown.{shown};
+ghost use Rattle.acct_book.specs.Row.{RowFacts};
 ghost use Rattle.acct_book.specs.Step.{Looks};
 ghost use Rattle.acct_book.specs.Step.{OnlyLooks};
-ghost use Rattle.acct_book_forward.specs.Carrying.{CarriesOn};
+ghost use Rattle.acct_book.specs.Walk.{AreRowsOf};
+ghost use Rattle.acct_book_forward.specs.Carrying.{CarriesOn, CountsUpTo, HasRoom, IsTallyOf};
+ghost use Rattle.acct_book_forward.specs.Carrying.{stay_of, with_stay};
 ghost use Rattle.acct_program_commands.specs.Forwarding.{selected, Forwards, LieBack, LieFarBack};
 ghost use Rattle.acct_program_commands.specs.Forwarding.{LiesFarBack, IsHeardAt, IsHeardOf};
 ghost use Rattle.acct_program_commands.specs.Forwarding.{IsHeardIn, Agrees, MayCarry};
 ghost use Rattle.acct_program_commands.specs.Forwarding.{IsClockFault, IsCutoffFault};
 ghost use Rattle.acct_program_commands.specs.Forwarding.{IsForwardFault, IsListFault};
+ghost use Rattle.acct_program_commands.specs.Survey.{CountsAll, Lists, RunsForward};
+ghost use Rattle.acct_program_commands.specs.Survey.{session_line, stay_line, totals_text};
 ghost use Rattle.acct_program_commands.specs.inner.Sums.{AddsUp, as_carried, no_sessions};
+ghost use Rattle.acct_program_commands.specs.inner.Surveyed.{IsNextAccount, carried_of};
+ghost use Rattle.acct_program_commands.specs.inner.Surveyed.{found_text, row_text};
 
 use crate::book_clock::ClockReading;
 use crate::fault::Fault;
@@ -130,8 +140,10 @@ struct Seen {
 impl Seen {
     // Adds a session.
     fn add(&mut self, selection: &Selection, row: &Row, moment: u64)
-        ensures { IsTrue self.new.is_heard
+        ensures heard { IsTrue self.new.is_heard
             → IsTrue self.old.is_heard ⊎ IsHeardAt selection.now row.now moment }
+        ensures counts { HasRoom self.old.tally
+            → self.new.tally ≡ with_stay (stay_of selection.now row.now) self.old.tally }
     {
         self.tally.add(selection, row);
         if is_heard_at(selection, row, moment) {
@@ -179,8 +191,8 @@ pub fn run_forward<B: Book, W: Write, E: Write>(
 ) -> Result<Status, Fault>
     requires moment { clock.moment < 2 ^ 53 }
     requires days { IfSome carrying.now.oldest_report (λ days. days ≤ 36500) }
-    ensures forwards { Forwards B.Book plans.now carrying.now clock.moment clock.written_at book.old
-        book.new result }
+    ensures runs { RunsForward B.Book plans.now carrying.now clock.moment clock.written_at
+        (W.contents output.old) (W.contents output.new) book.old book.new result }
     ensures far { OnOk result (LiesFarBack carrying.now clock.moment) }
     ensures other { IfOk result (λ status. status ≢ Status.BadCommandLine) }
     ensures why { IfErr result (IsForwardFault carrying.now clock.moment clock.written_at) }
@@ -216,6 +228,11 @@ fn look<B: Book, W: Write>(
     ensures answers { B.is_sound book.new → IfOk result (λ totals. B.is_open book.new) }
     ensures timely { IfOk result (λ found. MayCarry B.Book task.now.selection.now book.new
         task.now.is_sure task.now.clock.moment task.now.clock.written_at found.sessions.carried) }
+    ensures counts { B.is_open book.new
+        → IfOk result (CountsAll task.now.selection.now (B.content book.old)) }
+    ensures told { B.is_open book.new → OnOk result ((text : List ℕ)
+        × Lists task.now.lists_open task.now.selection.now (B.content book.old) text
+        × Appends (W.contents output.old) (W.contents output.new) text) }
     ensures why { IfErr result (λ told. IsListFault told
         ⊎ IsClockFault task.now.is_sure task.now.clock.moment task.now.clock.written_at told) }
 {
@@ -248,8 +265,12 @@ fn carry<B: Book, E: Write>(
     requires timely { MayCarry B.Book selection.now book.old carrying.now.is_sure clock.moment
         clock.written_at found.sessions.carried }
     requires answers { B.is_sound book.old → B.is_open book.old }
-    ensures { Forwards B.Book plans.now carrying.now clock.moment clock.written_at book.old book.new
-        result }
+    ensures forwards { Forwards B.Book plans.now carrying.now clock.moment clock.written_at book.old
+        book.new result }
+    ensures dry { carrying.now.is_dry ≡ true → result ≡ Ok found }
+    ensures none { found.sessions.carried ≡ 0 → result ≡ Ok found }
+    ensures counts { carrying.now.is_dry ≡ false → IfOk result (λ totals. CountsUpTo B.Book
+        selection.now plans.now book.old book.new totals.sessions.carried) }
 {
     if carrying.is_dry || found.sessions.carried == 0 {
         return Ok(found);
@@ -348,7 +369,9 @@ fn next_account<B: Book>(
     book: &mut B,
     after: &Option<Vec<u8>>,
 ) -> Result<Option<Vec<u8>>, Unavailable>
-    ensures { Looks B.Book book.old book.new result }
+    ensures reads { Looks B.Book book.old book.new result }
+    ensures next { B.is_open book.new
+        → IfOk result (IsNextAccount (B.content book.old) after.now) }
 {
     let found = match after {
         None => book.next_account(None)?,
@@ -371,6 +394,11 @@ fn survey<B: Book, W: Write>(
     ensures heard { B.is_open book.new → IfOk result (λ totals.
         IsTrue totals.is_heard
         → IsHeardIn task.now.selection.now (B.content book.old) task.now.clock.moment) }
+    ensures counts { B.is_open book.new
+        → IfOk result (CountsAll task.now.selection.now (B.content book.old)) }
+    ensures told { B.is_open book.new → OnOk result ((text : List ℕ)
+        × Lists task.now.lists_open task.now.selection.now (B.content book.old) text
+        × Appends (W.contents output.old) (W.contents output.new) text) }
     ensures why { IfErr result IsListFault }
 {
     let mut totals = Totals::new();
@@ -399,6 +427,11 @@ fn survey_account<B: Book, W: Write>(
     ensures heard { B.is_open book.new → IfOk result (λ seen. IsTrue seen.is_heard
         → IsTrue is_heard
         ⊎ IsHeardIn task.now.selection.now (B.content book.old) task.now.clock.moment) }
+    ensures told { B.is_open book.new → IfOk result (λ seen. (rows : List RowFacts)
+        × AreRowsOf (B.content book.old) account.now rows
+        × IsTallyOf task.now.selection.now rows seen.tally
+        × Appends (W.contents output.old) (W.contents output.new)
+        (flat_map (row_text task.now.lists_open task.now.selection.now) rows)) }
     ensures why { IfErr result IsListFault }
 {
     let keys = book.keys_of(account)?;
@@ -424,6 +457,11 @@ fn note<W: Write>(
     ensures heard { OnOk result (IsTrue seen.new.is_heard
         → IsTrue seen.old.is_heard
         ⊎ IsHeardOf task.now.selection.now found.now task.now.clock.moment) }
+    ensures counts { OnOk result ((row : RowFacts) → found.now ≡ Some row
+        → HasRoom seen.old.tally
+        → seen.new.tally ≡ with_stay (stay_of task.now.selection.now row) seen.old.tally) }
+    ensures told { OnOk result (Appends (W.contents output.old) (W.contents output.new)
+        (found_text task.now.lists_open task.now.selection.now found.now)) }
     ensures why { IfErr result IsListFault }
 {
     let Some(row) = found else {
@@ -438,7 +476,9 @@ fn note<W: Write>(
 }
 
 fn write_session<W: Write>(alloc: Global, output: &mut W, row: &Row) -> Result<(), Fault>
-    ensures { IfErr result IsListFault }
+    ensures told { OnOk result (Appends (W.contents output.old) (W.contents output.new)
+        (session_line row.now)) }
+    ensures why { IfErr result IsListFault }
 {
     let (client, last) = (row.client.as_str(), row.last);
     let session = shown(alloc, row.session.as_slice())?;
@@ -451,7 +491,8 @@ fn write_session<W: Write>(alloc: Global, output: &mut W, row: &Row) -> Result<(
 }
 
 fn shown(alloc: Global, octets: &[u8]) -> Result<String, Fault>
-    ensures { IfErr result (λ told. told ≡ Fault.NoMemory) }
+    ensures text { IfOk result (λ text. string_bytes text ≡ shown octets.now) }
+    ensures why { IfErr result (λ told. told ≡ Fault.NoMemory) }
 {
     match show(alloc, octets) {
         Ok(text) => Ok(text),
@@ -469,7 +510,9 @@ fn carry_next<B: Book>(
     after: &Option<Vec<u8>>,
 ) -> Result<Option<(Vec<u8>, Tally)>, Unavailable>
     requires { moment < 2 ^ 53 }
-    ensures { CarriesOn B.Book selection.now plans.now book.old book.new result }
+    ensures carries { CarriesOn B.Book selection.now plans.now book.old book.new result }
+    ensures counts { IfOk result (λ found. CountsUpTo B.Book selection.now plans.now book.old
+        book.new (carried_of found)) }
 {
     let Some(account) = next_account(book, after)? else {
         return Ok(None);
@@ -489,7 +532,9 @@ fn carry_all<B: Book, E: Write>(
     progress: &mut E,
 ) -> Result<Totals, Unavailable>
     requires { moment < 2 ^ 53 }
-    ensures { CarriesOn B.Book selection.now plans.now book.old book.new result }
+    ensures carries { CarriesOn B.Book selection.now plans.now book.old book.new result }
+    ensures counts { IfOk result (λ totals. CountsUpTo B.Book selection.now plans.now book.old
+        book.new totals.sessions.carried) }
 {
     let mut totals = Totals::new();
     let mut after: Option<Vec<u8>> = None;
@@ -513,15 +558,25 @@ fn write_progress<E: Write>(progress: &mut E, done: u64, accounts: u64) {
     }
 }
 
-fn write_totals<W: Write>(output: &mut W, is_dry: bool, totals: &Totals) -> io::Result<()> {
-    let (sessions, touched) = (totals.sessions, totals.touched);
-    let (carried, open, recent) = (sessions.carried, sessions.still_open, sessions.recent);
-    let (kept, too_large) = (sessions.of_kept, sessions.too_large);
+fn write_totals<W: Write>(output: &mut W, is_dry: bool, totals: &Totals) -> io::Result<()>
+    ensures { OnOk result (Appends (W.contents output.old) (W.contents output.new)
+        (totals_text is_dry totals.now)) }
+{
+    let (carried, touched) = (totals.sessions.carried, totals.touched);
     let verb = if is_dry { "would carry" } else { "carried" };
     writeln!(output, "{verb} {carried} sessions of {touched} accounts")?;
+    write_stays(output, totals)
+}
+
+// Prints how many sessions stay, and why.
+fn write_stays<W: Write>(output: &mut W, totals: &Totals) -> io::Result<()>
+    ensures { OnOk result (Appends (W.contents output.old) (W.contents output.new)
+        (stay_line totals.now)) }
+{
+    let (open, recent) = (totals.sessions.still_open, totals.sessions.recent);
+    let (kept, too_large) = (totals.sessions.of_kept, totals.sessions.too_large);
     writeln!(
         output,
         "stay: {open} open, {recent} recent, {kept} kept, {too_large} too large"
-    )?;
-    Ok(())
+    )
 }

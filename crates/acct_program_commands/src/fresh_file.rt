@@ -1,7 +1,7 @@
 //! A file that is rewritten from time to time.
-ghost use Rattle.std.specs.Prelude.{◌≡◌, ◌↔◌, IsTrue, IfOk, OnOk, Some, false, is_err};
+ghost use Rattle.std.specs.Prelude.{◌≡◌, ◌↔◌, ℕ, List, IsTrue, IfOk, OnOk, Some, false, is_err};
 ghost use Rattle.acct_program_commands.specs.Fresh.{IsDue, TellsTrouble};
-ghost use Rattle.acct_program_commands.specs.Placed.{IsEmpty};
+ghost use Rattle.std.specs.Io.KnownBytes.{Appends};
 ghost use Rattle.acct_program_commands.specs.Unwritten.{unwritten};
 
 use crate::fault::Fault;
@@ -76,7 +76,7 @@ impl FreshFile {
     ///
     /// Those of the system.
     pub(crate) fn begin<R: ReplacesFiles>(&self, runtime: &R) -> io::Result<R::Writer>
-        ensures { IfOk result (λ file. IsEmpty (R.Writer.contents file)) }
+        ensures { IfOk result (λ file. R.Writer.contents file ≡ R.fresh) }
     {
         runtime.open_empty(self.new_name.as_str(), self.mode)
     }
@@ -87,7 +87,8 @@ impl FreshFile {
     ///
     /// Those of the system.
     pub(crate) fn finish<R: ReplacesFiles>(&self, runtime: &R, file: R::Writer) -> io::Result<()>
-        ensures { OnOk result (R.was_put self.now.name (R.Writer.contents file)) }
+        ensures { OnOk result ((text : List ℕ)
+            → Appends R.fresh (R.Writer.contents file) text → R.was_put self.now.name text) }
     {
         runtime.put_in_place(file, self.new_name.as_str(), self.name.as_str())
     }

@@ -195,9 +195,7 @@ impl<'r, R: ReplacesFiles, E: Write> StatusFile<'r, R, E> {
             → self.new.file ≡ self.old.file }
     {
         self.meter.note_mute();
-        if self.file.is_due(moment) {
-            self.write(Some(moment));
-        }
+        self.write_if_due(moment);
         self.meter.note_came(came);
         if let Ok(Some(event)) = came {
             self.last_event_at = event.moment;
@@ -226,6 +224,23 @@ impl<'r, R: ReplacesFiles, E: Write> StatusFile<'r, R, E> {
         self.meter.note_drop();
         let place = reason.place();
         self.dropped[place] = self.dropped[place].saturating_add(1);
+    }
+
+    // Writes the counts if the file is due at this moment.
+    fn write_if_due(&mut self, moment: u64)
+        ensures due { IsDue self.old.file.pause self.old.file.begun_at moment
+            → Rewrites (λ name. (state : State) × PutsFigures (R.was_put name)
+            (figures_of self.old state)) moment self.old.file self.new.file }
+        ensures idle { ¬ IsDue self.old.file.pause self.old.file.begun_at moment
+            → self.new.file ≡ self.old.file }
+        ensures other { self.new ≡ record self.old {
+          file = self.new.file;
+          errors = self.new.errors;
+        } }
+    {
+        if self.file.is_due(moment) {
+            self.write(Some(moment));
+        }
     }
 
     // Writes the counts at a moment, if it is known, or prints why it cannot.

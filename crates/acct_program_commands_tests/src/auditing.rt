@@ -50,8 +50,8 @@ fn wanted(alloc: Global, id: &str) -> Result<String, Fail> {
 fn tells_each_finding(rt: HostRuntime) -> Result<(), Fail> {
     let alloc = rt.alloc();
     let (config, mut book) = (sample_config(alloc)?, wrong_book(alloc)?);
-    let (mut output, mut progress) = (Vec::new(alloc), Vec::new(alloc));
-    let ended = run_audit(alloc, &config, &mut book, &mut output, &mut progress);
+    let mut progress = Vec::new(alloc);
+    let (ended, output) = run_audit(alloc, &config, &mut book, Vec::new(alloc), &mut progress);
     let wanted = wanted(alloc, str::from_utf8(&LONG_ID).unwrap_or(""))?;
     let text = str::from_utf8(output.as_slice()).unwrap_or("");
     assert_eq!(rt; text, wanted.as_str());

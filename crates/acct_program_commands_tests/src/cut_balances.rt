@@ -1,5 +1,5 @@
 //! The files that a server writes, if there is room for a part of one: the old file stays.
-ghost use Rattle.std.specs.Prelude.{⊤};
+ghost use Rattle.std.specs.Prelude.{⊤, None};
 
 use acct_book::{Book, MemBook};
 use acct_model::{Text, TopUp};
@@ -98,6 +98,8 @@ impl ReadsFiles for Disk {
 
 impl ReplacesFiles for Disk {
     type Writer = NewFile;
+
+    ghost fresh = { None };
 
     ghost was_put = { λ _ _. ⊤ };
 

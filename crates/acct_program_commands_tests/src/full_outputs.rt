@@ -182,7 +182,10 @@ fn ended_over<W: Write + Drop>(
             &mut output,
             &mut progress,
         ),
-        Command::Audit => run_audit(alloc, &config, &mut book, &mut output, &mut progress),
+        Command::Audit => {
+            let (ended, _) = run_audit(alloc, &config, &mut book, &mut output, &mut progress);
+            ended
+        }
         Command::Check => check_from(alloc, &mut PLAN.as_bytes(), &mut output),
     })
 }

@@ -50,8 +50,8 @@ fn shown(alloc: Global, octet: &str) -> Result<String, Fail> {
 // Whether an audit tells of the balance and of the stray session.
 fn is_audited(alloc: Global) -> Result<bool, Fail> {
     let (config, mut book) = (sample_config(alloc)?, filled(alloc)?);
-    let (mut output, mut progress) = (Vec::new(alloc), Vec::new(alloc));
-    let ended = run_audit(alloc, &config, &mut book, &mut output, &mut progress);
+    let mut progress = Vec::new(alloc);
+    let (ended, output) = run_audit(alloc, &config, &mut book, Vec::new(alloc), &mut progress);
     let (name, other) = (shown(alloc, "%FF")?, shown(alloc, "%FE")?);
     let wanted = format!(in alloc;
         "ok: 1 clients, 2 plans, 3 keys\n\

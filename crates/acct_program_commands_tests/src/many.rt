@@ -196,8 +196,8 @@ fn with_sessions(alloc: Global, count: u32) -> Result<MemBook, Fail> {
 fn audits(alloc: Global, count: u32) -> Result<bool, Fail> {
     let config = sample_config(alloc)?;
     let mut book = with_sessions(alloc, count)?;
-    let (mut output, mut progress) = (Vec::new(alloc), Vec::new(alloc));
-    let ended = run_audit(alloc, &config, &mut book, &mut output, &mut progress);
+    let mut progress = Vec::new(alloc);
+    let (ended, output) = run_audit(alloc, &config, &mut book, Vec::new(alloc), &mut progress);
     let wanted = format!(in alloc;
         "ok: 1 clients, 2 plans, 3 keys\n\
         balanced: 1 accounts, {count} sessions, 1 vouchers\n"

@@ -32,7 +32,7 @@ use Rattle.acct_program_commands.specs.Checks.{IsNoConfig, TellsSizes, sizes_lin
 use Rattle.acct_program_commands.specs.Checks as check
 use Rattle.acct_program_commands.specs.KeptNames.{NamesSome}
 use Rattle.acct_program_commands.specs.Imports.{Runs}
-use Rattle.acct_program_commands.specs.Forwarding.{Forwards}
+use Rattle.acct_program_commands.specs.Survey.{RunsForward}
 use Rattle.acct_program_serving.specs.Serving.{RunsServer}
 use Rattle.acct_program_commands.specs.declared.fault.Fault.{Fault}
 use Rattle.acct_program_commands.specs.declared.fault.Fault.TheVariants as fault
@@ -243,12 +243,13 @@ module _ {D : Type 0} {g : disk.Ghosts D} where
             ⊎ ((config : Config) × FailsToExport b image config.plans told rest)
 
       -- `check --audit`: the book that the files held was audited, and is still open
-      pub record AuditsBook (ended : Result Status Fault) (rest : Left D g) : Type 0 where
+      pub record AuditsBook (before after : Option (List ℕ)) (ended : Result Status Fault)
+          (rest : Left D g) : Type 0 where
         pub config : Config
         pub last : Held (FileStore D g)
         pub open_is : rest ≡ left.Open last
         pub worked : Worked image config.plans
-            (λ first last. Audits b config.plans first last ended) last
+            (λ first last. Audits b config before after first last ended) last
 
       -- why none was
       pub record AuditsNothing (ended : Result Status Fault) (rest : Left D g) : Type 0 where
@@ -261,7 +262,7 @@ module _ {D : Type 0} {g : disk.Ghosts D} where
       abbrev pub ChecksOrAudits : Option (List ℕ) → Option (List ℕ) → Bool → Option (List ℕ)
           → Result Status Fault → Left D g → Type 0
       ChecksOrAudits before after true (Some file) ended rest =
-          AuditsBook ended rest ⊎ AuditsNothing ended rest
+          AuditsBook before after ended rest ⊎ AuditsNothing ended rest
       ChecksOrAudits before after audits database ended rest =
           DoesCheck database before after ended rest
 
@@ -278,7 +279,7 @@ module _ {D : Type 0} {g : disk.Ghosts D} where
       abbrev pub HasServed : List ℕ → Serving → Config → Result Status Fault
           → Held (FileStore D g) → Held (FileStore D g) → Type 0
       HasServed name serving config =
-          RunsServer b x (λ file octets. ⊤) (IsBound serving.listening) None None name serving config
+          RunsServer b x (λ file text. ⊤) (IsBound serving.listening) None None name serving config
           before after
 
       abbrev pub HasImported : ℕ → Config → Result Status Fault → Held (FileStore D g)
@@ -291,7 +292,7 @@ module _ {D : Type 0} {g : disk.Ghosts D} where
       abbrev pub HasForwarded : Carrying → ℕ → ℕ → Config → Result Status Fault
           → Held (FileStore D g) → Held (FileStore D g) → Type 0
       HasForwarded carrying moment written_at config ended first last =
-          Forwards b config.plans carrying moment written_at first last ended
+          RunsForward b config.plans carrying moment written_at before after first last ended
 
       -- what is done with the book of this name
       abbrev pub DoesBookJob : List ℕ → BookJob → Result Status Fault → Left D g → Type 0

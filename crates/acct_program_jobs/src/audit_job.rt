@@ -5,7 +5,7 @@ ghost use Rattle.acct_site.specs.declared.config.Config.{Config};
 ghost use Rattle.acct_program_commands.specs.Auditing.{Audits};
 ghost use Rattle.acct_program_jobs.specs.Commands.{Worked};
 ghost use Rattle.acct_program_jobs.specs.Files.{IsRefused};
-ghost use Rattle.acct_program_jobs.specs.Jobs.{AuditsBook, AuditsNothing, HasNoConfig};
+ghost use Rattle.acct_program_jobs.specs.Jobs.{AuditsBook, AuditsNothing, HasNoConfig, text_of};
 
 use crate::book_file::BookFile;
 use crate::command::{Outcome, config_of};
@@ -25,23 +25,23 @@ use std::io::Write;
 pub(crate) fn audit_book<S: Start, W: Write + Drop, E: Write + Drop>(
     runtime: &HostRuntime,
     files: BookFile<'_>,
-    mut output: W,
-    mut progress: E,
+    output: W,
+    progress: E,
     start: S,
 ) -> Outcome<W, FileFrom<S>>
     ensures other { IfOk result.ended (λ status. status ≢ Status.BadCommandLine) }
     ensures does { AuditsBook (image_at S.Start) ⟦<SqlBook<FileStore<FileFrom<S>>> as Book>⟧
-        result.ended result.left
+        (W.contents output) (text_of W.contents result.output) result.ended result.left
         ⊎ AuditsNothing (image_at S.Start) ⟦<SqlBook<FileStore<FileFrom<S>>> as Book>⟧
         result.ended result.left }
 {
-    match audited_from(runtime, files, &mut output, &mut progress, start) {
-        Ok((ended, connection)) => Outcome {
+    match audited_from(runtime, files, output, progress, start) {
+        Ok((ended, output, connection)) => Outcome {
             ended,
             output: Some(output),
             left: Left::Open(connection),
         },
-        Err((fault, left)) => Outcome {
+        Err((fault, output, left)) => Outcome {
             ended: Err(fault),
             output: Some(output),
             left,
@@ -50,37 +50,44 @@ pub(crate) fn audit_book<S: Start, W: Write + Drop, E: Write + Drop>(
 }
 
 // Audits the book in a file, which keeps the plans of the configuration in another one. Returns how
-// that ended, and the connection to the book.
-fn audited_from<S: Start, W: Write, E: Write>(
+// that ended, the output and the connection to the book.
+fn audited_from<S: Start, W: Write + Drop, E: Write + Drop>(
     runtime: &HostRuntime,
     files: BookFile<'_>,
-    output: &mut W,
-    progress: &mut E,
+    output: W,
+    progress: E,
     start: S,
-) -> Result<(Result<Status, Fault>, FileConnection<S>), (Fault, Left<FileFrom<S>>)>
+) -> Result<(Result<Status, Fault>, W, FileConnection<S>), (Fault, W, Left<FileFrom<S>>)>
     ensures done { IfOk result (λ done. IfOk done.0 (λ status. status ≡ Status.Done)) }
     ensures audited { IfOk result (λ done. (config : Config)
         × Worked (image_at S.Start) config.plans (λ first last.
-        Audits ⟦<SqlBook<FileStore<FileFrom<S>>> as Book>⟧ config.plans first last done.0) done.1) }
-    ensures refused { IfErr result (λ e. HasNoConfig e.0 e.1
-        ⊎ ((config : Config) × IsRefused (image_at S.Start) config.plans e.0 e.1)) }
+        Audits ⟦<SqlBook<FileStore<FileFrom<S>>> as Book>⟧ config (W.contents output)
+        (W.contents done.1) first last done.0) done.2) }
+    ensures refused { IfErr result (λ e. HasNoConfig e.0 e.2
+        ⊎ ((config : Config) × IsRefused (image_at S.Start) config.plans e.0 e.2)) }
 {
-    let config = config_of(runtime, files.config)?;
-    let book = adopted(runtime, files, &config.plans, start)?;
-    Ok(audited(runtime.alloc(), &config, book, output, progress))
+    let config = match config_of(runtime, files.config) {
+        Ok(config) => config,
+        Err((fault, left)) => return Err((fault, output, left)),
+    };
+    match adopted(runtime, files, &config.plans, start) {
+        Ok(book) => Ok(audited(runtime.alloc(), &config, book, output, progress)),
+        Err((fault, left)) => Err((fault, output, left)),
+    }
 }
 
 // Audits a book in any store, and returns its connection.
-fn audited<T: Alter + Drop, W: Write, E: Write>(
+fn audited<T: Alter + Drop, W: Write + Drop, E: Write + Drop>(
     alloc: Global,
     config: &Config,
     mut book: SqlBook<T>,
-    output: &mut W,
-    progress: &mut E,
-) -> (Result<Status, Fault>, Connection<T>)
+    output: W,
+    progress: E,
+) -> (Result<Status, Fault>, W, Connection<T>)
     ensures done { IfOk result.0 (λ status. status ≡ Status.Done) }
-    ensures audits { Audits ⟦<SqlBook<T> as Book>⟧ config.now.plans book result.1 result.0 }
+    ensures audits { Audits ⟦<SqlBook<T> as Book>⟧ config.now (W.contents output)
+        (W.contents result.1) book result.2 result.0 }
 {
-    let ended = run_audit(alloc, config, &mut book, output, progress);
-    (ended, book.into_connection())
+    let (ended, output) = run_audit(alloc, config, &mut book, output, progress);
+    (ended, output, book.into_connection())
 }

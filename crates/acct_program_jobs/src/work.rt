@@ -7,7 +7,7 @@ ghost use Rattle.acct_site.specs.declared.config.Config.{Config};
 ghost use Rattle.acct_program.specs.declared.status.Status.{Status};
 ghost use Rattle.acct_program_commands.specs.declared.fault.Fault.{Fault};
 ghost use Rattle.acct_program_commands.specs.Imports.{Runs};
-ghost use Rattle.acct_program_commands.specs.Forwarding.{Forwards};
+ghost use Rattle.acct_program_commands.specs.Survey.{RunsForward};
 ghost use Rattle.acct_program_args.specs.Orders.{IsBounded};
 ghost use Rattle.acct_program_serving.specs.Serving.{IsBoundTo, RunsServer};
 ghost use Rattle.acct_program_jobs.specs.Files.{Copies};
@@ -126,8 +126,9 @@ impl<W: Write, E: Write + Drop> Work<W> for Forward<'_, E> {
     ghost is_ready = { λ it. (it.clock.moment < 2 ^ 53)
         × IfSome it.carrying.now.oldest_report (λ days. days ≤ 36500) };
 
-    ghost did = { λ b it config ended first last before after. Forwards b config.plans
-        it.carrying.now it.clock.moment it.clock.written_at first last ended };
+    ghost did = { λ b it config ended first last before after.
+        RunsForward b config.plans it.carrying.now it.clock.moment it.clock.written_at before after
+        first last ended };
 
     fn over<B: Book>(
         self,

@@ -1,7 +1,7 @@
 -- The files of balances that rounds put in their place, by the content of the book, and so by its
 -- history.
-use Rattle.std.proofs.Common.{◌≡◌, ap, subst, sym, ◌∙◌, refl, true, false, Bool}
-use Rattle.std.specs.Prelude.{⊤, ℕ, ℤ, List, [], ◌∷◌, ◌++◌, Option, Some, None, Contains}
+use Rattle.std.proofs.Common.{◌≡◌, ap, sym, ◌∙◌, refl, true, false, Bool}
+use Rattle.std.specs.Prelude.{⊤, ℕ, ℤ, List, [], ◌∷◌, ◌++◌, Option, Some, None}
 use Rattle.std.specs.Prelude.{if◌then◌else◌}
 use Rattle.acct_model.specs.declared.plan.Plan.{Plan}
 use Rattle.acct_model.specs.History.{History, is_known, balance_of}
@@ -10,7 +10,6 @@ use Rattle.acct_book.specs.Content.{Content}
 use Rattle.acct_book.specs.Maps.{octets_cmp}
 use Rattle.acct_book.specs.Stands.{Stands}
 use Rattle.acct_book.specs.Walk.{AreAllPast}
-use Rattle.acct_service.specs.declared.exchange.Call.{Call}
 use Rattle.acct_service.specs.Machine.{Visit}
 use Rattle.acct_service.specs.Slices.{Slice, EachStandsAfter, SlicesStand}
 use Rattle.acct_site.specs.declared.config.Config.{Config}
@@ -48,19 +47,10 @@ balances_of plans content history entries stands all = record {
   );
 }
 
-puts_of : (Put : Option (List ℕ) → Type 0) (of_site plans : List Plan) (content : Content)
-    (history : History) → Stands plans content history → PutsBalances Put of_site content ⊤
-    → PutsBalancesOf Put plans history
-puts_of Put of_site plans content history stands
-    (empty, octets, at_first, (entries, appends, all), put) = (
-      entries,
-      balances_of plans content history entries stands (all tt),
-      empty,
-      octets,
-      at_first,
-      appends,
-      put,
-    )
+puts_of : (Put : List ℕ → Type 0) (plans : List Plan) (content : Content) (history : History)
+    → Stands plans content history → PutsBalances Put content ⊤ → PutsBalancesOf Put plans history
+puts_of Put plans content history stands (entries, all, put) =
+    (entries, balances_of plans content history entries stands (all tt), put)
 
 goes_so : (One Other : List ℕ → Type 0) (so : (name : List ℕ) → One name → Other name)
     (plans : List Plan) (old : RoundState) (gave : Option Config) (new : RoundState)
@@ -74,7 +64,7 @@ goes_so One Other so plans old gave new goes = record {
   takes = goes.takes;
 }
 
-rounds_told : (Put : List ℕ → Option (List ℕ) → Type 0) (is_open : Type 0) (opened : is_open)
+rounds_told : (Put : List ℕ → List ℕ → Type 0) (is_open : Type 0) (opened : is_open)
     (plans : List Plan) (history : History) (seen : List Visit) (slices : List Slice)
     (known last : RoundState) → RoundsAfter Put is_open known slices last
     → EachStandsAfter plans history seen slices → RoundsTell Put plans history seen known slices last
@@ -84,15 +74,15 @@ rounds_told Put is_open opened plans history seen (slice ∷ later) known last
       after,
       run,
       next,
-      goes_so (λ name. PutsBalances (Put name) slice.site.plans slice.content ⊤)
+      goes_so (λ name. PutsBalances (Put name) slice.content ⊤)
           (λ name. PutsBalancesOf (Put name) plans after)
-          (λ name. puts_of (Put name) slice.site.plans plans slice.content after stands)
+          (λ name. puts_of (Put name) plans slice.content after stands)
           slice.site.plans known slice.given next (shows opened),
       rounds_told Put is_open opened plans history (seen ++ slice.visits) later next last rest each,
     )
 
 pub balances_told : {B : Type 0} (b : book.Ghosts B) (stand : SlicesStand b)
-    (Put : List ℕ → Option (List ℕ) → Type 0) → BalancesAreTold b Put
+    (Put : List ℕ → List ℕ → Type 0) → BalancesAreTold b Put
 balances_told b stand Put plans slices old new told later known last go rounds opened history stood =
     rounds_told Put (b.is_open new) opened plans history [] slices known last rounds
     (stand plans slices old new told later go opened history stood)

@@ -75,14 +75,14 @@ module _ {B X Y : Type 0} (b : book.Ghosts B) (x : exchange.Ghosts X) (y : excha
   )
 
 -- rounds whose state goes on so go on so
-pub rounds_after : {R : Type 0} (r : rounds.Ghosts R) (Put : List ℕ → Option (List ℕ) → Type 0)
+pub rounds_after : {R : Type 0} (r : rounds.Ghosts R) (Put : List ℕ → List ℕ → Type 0)
     (is_open : Type 0) (known : R → RoundState)
     (each : (old : R) (config : Config) (gave : Option Config) (new : R)
     → r.goes old config gave new
     → GoesRound (λ name. IsPut (Put name)) config.plans (known old) gave (known new))
     (shown : (old : R) (config : Config) (content : Content) (gave : Option Config) (new : R)
     → r.shows old config content gave new
-    → GoesRound (λ name. PutsBalances (Put name) config.plans content ⊤) config.plans (known old)
+    → GoesRound (λ name. PutsBalances (Put name) content ⊤) config.plans (known old)
     gave (known new))
     (first : R) (slices : List Slice) (last : R) → GoRounds r is_open first slices last
     → RoundsAfter Put is_open (known first) slices (known last)
@@ -114,10 +114,10 @@ however b oldest config old new told later Went Goes so limit made served why ru
 }
 
 module _ {B X : Type 0} (b : book.Ghosts B) (x : exchange.Ghosts X)
-    (Put : List ℕ → Option (List ℕ) → Type 0) (IsBound : Cell Bool → X → Type 0)
+    (Put : List ℕ → List ℕ → Type 0) (IsBound : Cell Bool → X → Type 0)
     (polls : Option (List Poll)) (moments : Option (List ℕ)) (path : List ℕ) (serving : Serving)
     (known then : RoundState) (config : Config) (before_all old new : B)
-    (begins : Begins (λ name. PutsBalances (Put name) config.plans (b.content before_all)
+    (begins : Begins (λ name. PutsBalances (Put name) (b.content before_all)
     (b.is_open old)) serving.telling.balances polls moments path known)
     (Went : List Slice → Type 0)
     (so : (slices : List Slice) → Went slices → RoundsAfter Put (b.is_open new) known slices then)
@@ -144,7 +144,8 @@ module _ {B X : Type 0} (b : book.Ghosts B) (x : exchange.Ghosts X)
       → EndsOver b x (seconds_of serving.oldest_report) config serving.turns Went old new first last
       before after ended
       → EndsOver b x (seconds_of serving.oldest_report) config serving.turns
-      (λ slices. RoundsAfter Put (b.is_open new) known slices then) old new first last before after ended
+      (λ slices. RoundsAfter Put (b.is_open new) known slices then) old new first last before after
+      ended
   ends_however before after (how.Told served why) (ran, printed) =
       (ran_however served why ran, printed)
   ends_however before after (how.Untold served why) ran = ran_however served why ran

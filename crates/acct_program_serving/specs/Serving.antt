@@ -1,6 +1,6 @@
 -- What `serve` does, and how it ends.
 use Rattle.std.specs.declared.cell.Cell.{Cell}
-use Rattle.std.specs.Prelude.{◌≡◌, ◌⊎◌, ⊤, ℕ, Bool, List, [], ◌∷◌, Option, None, Some, Result, Ok, Err}
+use Rattle.std.specs.Prelude.{◌≡◌, ◌⊎◌, ⊤, ℕ, Bool, List, [], ◌∷◌, Option, Result, Ok, Err}
 use Rattle.std.specs.Io.KnownBytes.{Appends}
 use Rattle.std.specs.List.{AllZip}
 use Rattle.std.specs.Net.Grammar.{IsDotted}
@@ -57,13 +57,13 @@ pub record IsBoundTo (listening : Listening) (datagrams : List RadiusSocket) (de
 -- After each slice a round went, and nothing else did. The turns that follow have what was taken
 -- from its poll: other clients and keys, or what was in force. If the book is open, each file of
 -- balances that was put in its place has those of the content after that slice.
-abbrev pub RoundsAfter : (List ℕ → Option (List ℕ) → Type 0) → Type 0 → RoundState → List Slice
+abbrev pub RoundsAfter : (List ℕ → List ℕ → Type 0) → Type 0 → RoundState → List Slice
     → RoundState → Type 0
 RoundsAfter Put is_open known [] last = known ≡ last
 RoundsAfter Put is_open known (slice ∷ later) last =
     (next : RoundState)
     × GoesRound (λ name. IsPut (Put name)) slice.site.plans known slice.given next
-    × (is_open → GoesRound (λ name. PutsBalances (Put name) slice.site.plans slice.content ⊤)
+    × (is_open → GoesRound (λ name. PutsBalances (Put name) slice.content ⊤)
     slice.site.plans known slice.given next)
     × RoundsAfter Put is_open next later last
 
@@ -92,7 +92,7 @@ module _ {B X : Type 0} (b : book.Ghosts B) (x : exchange.Ghosts X) where
   -- Before it began, the book was only read, for the file of balances. Its rounds went on from what
   -- the text and its clock had shown, with the file of balances that was named and the name of this
   -- book: each configuration is the first one, or was taken from a poll.
-  pub record EndsAfresh (Put : List ℕ → Option (List ℕ) → Type 0) (IsBound : Cell Bool → X → Type 0)
+  pub record EndsAfresh (Put : List ℕ → List ℕ → Type 0) (IsBound : Cell Bool → X → Type 0)
       (polls : Option (List Poll)) (moments : Option (List ℕ)) (book : List ℕ) (serving : Serving)
       (config : Config) (old new : B) (last : X) (before after : Option (List ℕ)) (ended : Ended)
       : Type 0 where
@@ -104,7 +104,7 @@ module _ {B X : Type 0} (b : book.Ghosts B) (x : exchange.Ghosts X) where
     pub known : RoundState
     pub bound : IsBound known.away first
     pub begins : Begins
-        (λ name. PutsBalances (Put name) config.plans (b.content old) (b.is_open begun))
+        (λ name. PutsBalances (Put name) (b.content old) (b.is_open begun))
         serving.telling.balances polls moments book known
     pub then : RoundState
     pub ends : EndsOver (seconds_of serving.oldest_report) config serving.turns
@@ -113,9 +113,9 @@ module _ {B X : Type 0} (b : book.Ghosts B) (x : exchange.Ghosts X) where
 
   -- The command. The sockets could not be bound, and nothing was done. Or a server ended this way
   -- over an exchange that was bound so, and had made no turn and no fault.
-  abbrev pub RunsServer : (List ℕ → Option (List ℕ) → Type 0) → (Cell Bool → X → Type 0)
-      → Option (List Poll) → Option (List ℕ) → List ℕ → Serving → Config → Option (List ℕ) → Option (List ℕ)
-      → Result Status Fault → B → B → Type 0
+  abbrev pub RunsServer : (List ℕ → List ℕ → Type 0) → (Cell Bool → X → Type 0)
+      → Option (List Poll) → Option (List ℕ) → List ℕ → Serving → Config → Option (List ℕ)
+      → Option (List ℕ) → Result Status Fault → B → B → Type 0
   RunsServer Put IsBound polls moments book serving config before after result old new =
       ((told : Fault) × (result ≡ Err told) × IsUnbound told × (new ≡ old) × (after ≡ before))
       ⊎ ((ended : Ended) × (result ≡ ended_of ended) × ((last : X) × EndsAfresh Put IsBound polls

@@ -177,7 +177,7 @@ fn first_rounds<'r, R: ReplacesFiles, S: SiteSource + Drop, B: Book, E: Write + 
     ensures looks { OnlyLooks B.Book book.old book.new }
     ensures begins { (named : Option BalancesFile) (path : List ℕ) → IsKept named balances.entry
         → IsNamed path (seen_of names.entry)
-        → Begins (λ name. PutsBalances (R.was_put name) config.now.plans (B.content book.old)
+        → Begins (λ name. PutsBalances (R.was_put name) (B.content book.old)
         (B.is_open book.new)) named (S.polls source) (S.moments source)
         path (state_of S.polls S.moments result) }
     ensures away { result.gauges ≡ gauges.entry }
@@ -208,7 +208,7 @@ fn write_first<'r, R: ReplacesFiles, S: SiteSource, B: Book, E: Write>(
     ensures unpolled { S.polls source.new ≡ S.polls source.old }
     ensures keeps { (moment : ℕ)
         × Grows (S.moments source.old) (moment ∷ []) (S.moments source.new)
-        × KeepsAt (λ name. PutsBalances (R.was_put name) config.now.plans (B.content book.old)
+        × KeepsAt (λ name. PutsBalances (R.was_put name) (B.content book.old)
         (B.is_open book.new)) moment (file_of balances.old) (file_of balances.new) }
 {
     let moment = source.moment();

@@ -42,8 +42,8 @@ impl<'r, R: Clock + ReplacesFiles, D: Write + Drop, E: Write + Drop> Watcher<'r,
         requires turns { X.turn_count exchange + turns ≤ 2 ^ 64 - 1 }
         requires failures { X.failure_count exchange + turns ≤ 2 ^ 64 - 1 }
         ensures { EndsOver B.Book X.Exchange rules.now.oldest rules.now.config.now turns
-            (λ slices. GoRounds G.Rounds (B.is_open book.new) rounds.old slices rounds.new) book.old book.new
-            exchange result.0 (W.contents output.old) (W.contents output.new) result.1 }
+            (λ slices. GoRounds G.Rounds (B.is_open book.new) rounds.old slices rounds.new)
+            book.old book.new exchange result.0 (W.contents output.old) (W.contents output.new) result.1 }
     {
         let Watcher {
             clock,
@@ -75,8 +75,8 @@ pub fn serve_exchange<B: Book, X: Exchange, G: Rounds, W: Write>(
     requires turns { X.turn_count exchange.old + turns ≤ 2 ^ 64 - 1 }
     requires failures { X.failure_count exchange.old + turns ≤ 2 ^ 64 - 1 }
     ensures { EndsOver B.Book X.Exchange rules.now.oldest rules.now.config.now turns
-        (λ slices. GoRounds G.Rounds (B.is_open book.new) rounds.old slices rounds.new) book.old book.new exchange.old
-        exchange.new (W.contents output.old) (W.contents output.new) result }
+        (λ slices. GoRounds G.Rounds (B.is_open book.new) rounds.old slices rounds.new)
+        book.old book.new exchange.old exchange.new (W.contents output.old) (W.contents output.new) result }
 {
     let Ok(()) = write_serving(output) else {
         return Ended::NotBegun;

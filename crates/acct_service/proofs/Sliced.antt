@@ -190,7 +190,7 @@ rounds_more r is_open first then last (one ∷ second ∷ later) slice (next, we
           (λ more. goes_on (λ is. cc)) goes shows,
     )
 
--- a book that is opened later was opened before
+-- a book that is open later was open before
 rounds_later : {R : Type 0} (r : rounds.Ghosts R) (is_open later_open : Type 0)
     (was_open : later_open → is_open) (first : R) (slices : List Slice) (last : R)
     → GoRounds r is_open first slices last → GoRounds r later_open first slices last
@@ -247,7 +247,7 @@ module _ {B : Type 0} (b : book.Ghosts B) (plans : List Plan) where
             (λ more. opened (λ is. cc)) attends content looks,
       )
 
-  -- a book that is opened in the end was opened before
+  -- a book that is open in the end was open before
   was_open : (slices : List Slice) (old new : B) (told later : Option (List Call))
       → GoOneByOne b plans slices old new told later → b.is_open new → b.is_open old
   was_open [] old new told later (same, told_same) opened = subst (λ it. b.is_open it) same opened

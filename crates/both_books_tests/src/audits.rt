@@ -1,5 +1,5 @@
 //! Audits of books that are right.
-ghost use Rattle.std.specs.Prelude.{None};
+ghost use Rattle.std.specs.Prelude.{None, []};
 
 use acct_book::{Book, Row};
 use acct_book_audit::{Audit, Auditor, Kind, Statement, audit};
@@ -13,6 +13,8 @@ struct Strict;
 
 impl Auditor for Strict {
     type Error = Fail;
+
+    ghost words = { λ _. [] };
 
     ghost told = { λ _. None };
 

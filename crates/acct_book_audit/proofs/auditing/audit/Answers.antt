@@ -25,8 +25,8 @@ returns-clause-audited g c = λ opens.
           (content c.audit_members-2.new.book) audit accounts sessions vouchers same (also ∙ same)
           (met_accounts before) (met_sessions opened) (met_vouchers opens) count_accounts
           count_sessions count_vouchers,
-      audit_told plans (content c.args.book.now) audit accounts sessions vouchers _ _ _ _
-          told_accounts told_sessions told_vouchers,
+      audit_told plans (content c.args.book.now) audit accounts sessions vouchers
+          g.A.Auditor.words _ _ _ _ told_accounts told_sessions told_vouchers,
     )
 
 pub returns-clause-clean : goal.returns-clause-clean

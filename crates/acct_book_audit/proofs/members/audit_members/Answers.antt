@@ -1,7 +1,8 @@
 use Rattle.std.proofs.Common.{◌++◌, ◌+◌, ◌∷◌, [], refl, Some, None, sym, ap, arith}
 use Rattle.acct_book.proofs.Looking.{looks_none, looks_then}
 use Rattle.acct_book.proofs.Walking.{next_here, walked_all, walked_more}
-use Rattle.acct_book_audit.proofs.Walking.{counts_more, told_more, grows_nothing}
+use Rattle.std.proofs.KnownBytes.{Appends-nil}
+use Rattle.acct_book_audit.proofs.Walking.{counts_more, told_more}
 use Rattle.acct_book_audit.proofs.members.audit_members.Goals as goal
 
 pub loop-turn-init : goal.loop-turn-init
@@ -9,7 +10,7 @@ loop-turn-init g c = record {
   quiet = looks_none g.B.Book c.args.book.now;
   all = refl;
   bound = omega arith;
-  walk = ([], λ o. refl, record { all = refl; wrong = refl }, grows_nothing _);
+  walk = ([], λ o. refl, record { all = refl; wrong = refl }, Appends-nil _);
 }
 
 pub loop-turn-preserved : goal.loop-turn-preserved
@@ -41,8 +42,8 @@ loop-turn-preserved g c =
               wrong = c.loop-turn.seen.wrong + c.in_ok-seen.field-0;
             }) c.in_ok-seen.field-0 counts c.in_ok-seen.ensures.count
             (ap (λ n. n + 1) (sym inv.all)) refl,
-        told_more m.found_of members member _ _ _ _ told c.in_ok-seen.ensures.told
-            c.go_on.ensures,
+        told_more g.A.Auditor.words m.found_of members member _ _ _ _ told
+            c.in_ok-seen.ensures.told c.go_on.ensures,
       );
     }
 

@@ -1,7 +1,7 @@
 use Rattle.std.proofs.Common.{◌≡◌, ◌≤◌, List, None, length}
 use Rattle.std.specs.Prelude.{flat_map}
+use Rattle.std.specs.Io.KnownBytes.{Appends}
 use Rattle.acct_book.specs.Step.{OnlyLooks}
-use Rattle.acct_book_audit.specs.Finding.{Grows}
 use Rattle.acct_book_audit.specs.Audit.{Counts}
 use Rattle.acct_book.proofs.Walking.{Walked}
 use Rattle.acct_book_audit.proofs.members.audit_members.Given as goal
@@ -16,6 +16,6 @@ invariant-loop-turn g l = record {
       → Walked (g.M.Members.is_next l.fn.plans (g.B.Book.content l.fn.book)) g.M.Members.key_of
       None members l.after)
       × Counts l.seen (length members) (length (flat_map g.M.Members.found_of members))
-      × Grows (g.A.Auditor.told l.fn.auditor) (flat_map g.M.Members.found_of members)
-      (g.A.Auditor.told l.auditor);
+      × Appends (g.A.Auditor.told l.fn.auditor) (g.A.Auditor.told l.auditor)
+      (flat_map g.A.Auditor.words (flat_map g.M.Members.found_of members));
 }

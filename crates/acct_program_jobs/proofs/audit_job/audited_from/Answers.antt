@@ -1,11 +1,11 @@
 use Rattle.acct_program_jobs.proofs.audit_job.audited_from.Goals as goal
 
-pub returns-clause-audited : goal.returns-clause-audited
-returns-clause-audited g c = (
-  c.in_ok-config.config,
+pub returns-in-Ok-adopted-clause-audited : goal.returns-in-Ok-adopted-clause-audited
+returns-in-Ok-adopted-clause-audited g c = (
+  c.in-Ok.config,
   record {
-    first = c.in_ok-book.book;
-    adopted = c.in_ok-book.ensures.adopted;
+    first = c.in-Ok-adopted.book;
+    adopted = c.in-Ok-adopted.ensures.adopted;
     did = c.audited.ensures.audits;
   },
 )

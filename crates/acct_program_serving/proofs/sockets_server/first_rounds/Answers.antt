@@ -1,4 +1,3 @@
-use Rattle.std.proofs.Common.{refl}
 use Rattle.acct_program_serving.proofs.HandedOn.{kept_first}
 use Rattle.acct_program_serving.proofs.sockets_server.first_rounds.Goals as goal
 

@@ -7,7 +7,7 @@ pub returns-clause-goes : goal.returns-clause-goes
 returns-clause-goes g c = record {
   moment = c.moment-moment.result;
   reads = rw c.take_polled.ensures.unread c.moment-moment.ensures.read;
-  keeps = keeps_some g.R.ReplacesFiles.was_put c.args.config.now.plans
+  keeps = keeps_some g.R.ReplacesFiles.was_put
       (g.B.Book.content c.args.book.now) (g.B.Book.is_open c.keep_at.new.book)
       c.moment-moment.result (file_of c.args.self.now.balances) (file_of c.keep_at.new.balances)
       c.keep_at.ensures.keeps;
@@ -20,7 +20,7 @@ pub returns-clause-shows : goal.returns-clause-shows
 returns-clause-shows g c = λ opened. record {
   moment = c.moment-moment.result;
   reads = rw c.take_polled.ensures.unread c.moment-moment.ensures.read;
-  keeps = keeps_known g.R.ReplacesFiles.was_put c.args.config.now.plans
+  keeps = keeps_known g.R.ReplacesFiles.was_put
       (g.B.Book.content c.args.book.now) (g.B.Book.is_open c.keep_at.new.book)
       c.moment-moment.result (file_of c.args.self.now.balances) (file_of c.keep_at.new.balances)
       c.keep_at.ensures.keeps opened;
