@@ -118,6 +118,31 @@ server default {{
 	}}
 }}
 """
+# proxy.conf: a realm whose server, `away`, gets logins, two whose server gets reports, too, and two of
+# the site's own.
+REALMS = """
+home_server_pool away {
+	type = fail-over
+	home_server = away
+}
+realm away.example {
+	auth_pool = away
+	nostrip
+}
+realm both.example {
+	pool = away
+	nostrip
+}
+realm "~^.*[.]pattern[.]example$" {
+	pool = away
+	nostrip
+}
+realm campus.example {
+	nostrip
+}
+realm short.example {
+}
+"""
 EAP = "eap {\n\tdefault_eap_type = md5\n\tmd5 {\n\t}\n}\n"
 
 failures = 0

@@ -32,27 +32,6 @@ home_server away {{
 	secret = {secret}
 	status_check = none
 }}
-home_server_pool away {{
-	type = fail-over
-	home_server = away
-}}
-realm away.example {{
-	auth_pool = away
-	nostrip
-}}
-realm both.example {{
-	pool = away
-	nostrip
-}}
-realm "~^.*[.]pattern[.]example$" {{
-	pool = away
-	nostrip
-}}
-realm campus.example {{
-	nostrip
-}}
-realm short.example {{
-}}
 """
 # Clients that the site has besides its access servers: name, address and a line.
 CLIENTS = {
@@ -104,7 +83,7 @@ class Site(Stock):
         super().__init__(folder, raddb)
         self.home = home
         front.written(os.path.join(raddb, "proxy.conf"),
-                      HOME.format(port=home.port, secret=SECRET))
+                      HOME.format(port=home.port, secret=SECRET) + front.REALMS)
         path = os.path.join(raddb, "radacctd/access-servers.conf")
         with open(path, "a", encoding="utf-8") as file:
             for name, (address, line) in CLIENTS.items():

@@ -9,6 +9,7 @@ import os
 import select
 import socket
 import subprocess
+import sys
 import threading
 import time
 import types
@@ -22,10 +23,14 @@ from front import BOOK_SECRET, LISTEN, SECRET, written
 from front_sender import Sender, attribute
 from random_judge import Queue
 
+sys.path.insert(0, os.path.join(front.ROOT, "etc"))
+
+from radacctl.setup.front import HOME as CUT
+
 SHARDS = os.path.join(front.ROOT, "etc", "shards", "policy")
 REALMS = "realm suffix {\n\tformat = suffix\n\tdelimiter = \"@\"\n}\n"
-# proxy.conf: a realm whose server gets logins, two whose server gets reports, too, and the site's.
-HOMES = """
+# proxy.conf: the server of the realms that are elsewhere.
+HOME = """
 home_server away {{
 	type = auth+acct
 	ipaddr = 127.0.0.1
@@ -33,36 +38,6 @@ home_server away {{
 	secret = {secret}
 	status_check = none, response_window = 3
 	response_timeouts = 1000, zombie_period = 5, revive_interval = 10
-}}
-home_server_pool away {{
-	type = fail-over
-	home_server = away
-}}
-realm away.example {{
-	auth_pool = away
-	nostrip
-}}
-realm both.example {{
-	pool = away
-	nostrip
-}}
-realm "~^.*[.]pattern[.]example$" {{
-	pool = away
-	nostrip
-}}
-realm campus.example {{
-	nostrip
-}}
-realm short.example {{
-}}
-home_server cut {{
-	type = coa
-	ipaddr = {cut}
-	port = {coa}
-	secret = {secret}
-	coa {{
-		irt = 2, mrt = 8, mrc = 3, mrd = 15
-	}}
 }}
 """
 PAIR = "radacctd_pair {\n\tqueue = ${radacctdir}/radacctd-other\n}\n"
@@ -108,7 +83,7 @@ server default {{
 COA_PORT = 3799
 NO_READERS = "# What is queued stays, so that it can be read.\n"
 # What a visitor's login asks the other server to have in its Access-Accept: a name and a Class.
-HOME = {34: model.NAME, 35: model.CLASS}
+SAYS = {34: model.NAME, 35: model.CLASS}
 # To a login Access-Accept, to a report, and to a Disconnect-Request.
 ANSWERS = {1: 2, 4: 5, 40: 41}
 
@@ -135,7 +110,7 @@ class Ear(threading.Thread):
         self.heard.append(found)
         body = b"".join(attribute(*it) for it in found if it[0] == 33)
         if packet[0] == 1:
-            body += b"".join(attribute(HOME[it[0]], it[1]) for it in found if it[0] in HOME)
+            body += b"".join(attribute(SAYS[it[0]], it[1]) for it in found if it[0] in SAYS)
         head = bytes([ANSWERS[packet[0]], packet[1]]) + (20 + len(body)).to_bytes(2, "big")
         proof = hashlib.md5(head + packet[4:20] + body + self.secret).digest()
         opened.sendto(head + proof + body, sender)
@@ -167,7 +142,8 @@ class Site(front.FreeRadius):
         self.book, self.home = Ear(BOOK_SECRET), Ear(SECRET, 2)
         self.cut = Ear(SECRET, 1, (cuts.source, COA_PORT))
         clients = "".join(it.lines(SECRET) for it in draw.CLIENTS)
-        more = HOMES.format(port=self.home.port, secret=SECRET, cut=cuts.source, coa=COA_PORT)
+        more = HOME.format(port=self.home.port, secret=SECRET) + front.REALMS
+        more += CUT.format(address=cuts.source, port=COA_PORT, secret=SECRET)
         more += PAIR if choices.pair else ""
         book = types.SimpleNamespace(radius=self.book.port)
         super().__init__(folder, book, lines_of(choices), clients, more)
