@@ -42,9 +42,10 @@ Options:
 class Bash(Folder):
     def setUp(self):
         super().setUp()
-        for name in ("radacctd", "radacctl"):
-            shutil.copy(os.path.join(ROOT, "etc/completions", f"{name}.bash"),
-                        os.path.join(self.folder, name))
+        shutil.copy(os.path.join(ROOT, "etc/completions/radacctd.bash"),
+                    os.path.join(self.folder, "radacctd"))
+        # As bin/install has it.
+        os.symlink("radacctd", os.path.join(self.folder, "radacctl"))
         self.tools = os.path.join(self.folder, "bin")
         self.files = os.path.join(self.folder, "files")
         os.mkdir(self.tools)

@@ -20,4 +20,4 @@ _radacctd() {
     mapfile -t COMPREPLY < <(compgen -W "$found" -- "$cur" | sort -u)
     if [[ $1 == *radacctl && $command ]]; then _filedir; fi
 }
-complete -F _radacctd radacctd
+complete -F _radacctd radacctd radacctl
