@@ -727,6 +727,12 @@ class Unseen(unittest.TestCase):
             for octets, wanted in ((b"x", []), (b"", [("book", "1")])):
                 files.replace(f"{path}/book", octets)
                 self.assertEqual([*copies.lost(path)], wanted)
+            # A version before wrote no sums.
+            files.replace(f"{path}/sizes", b"book 1\nbook-wal 50\n")
+            files.replace(f"{path}/book", b"x")
+            self.assertEqual([*copies.lost(path)], [])
+            os.remove(f"{path}/book-wal")
+            self.assertEqual([*copies.lost(path)], [("book-wal", "50")])
         self.assertIn(f"{path}/book-wal has not its 50 octets", found)
         # Its day's exports are looked for by its own name.
         self.assertIn(f"{folder}/exports/2026-01-02 is missing: no report of that day", found)

@@ -103,6 +103,16 @@ class Restore(unittest.TestCase):
         self.write("2026-11-26/book", "2026-11")
         self.assertIn("2026-11-26 lacks book 10 octets", self.restored("2026-11-26")[1])
 
+    def test_a_copy_of_a_version_before_that_lost_its_log(self):
+        """It wrote lengths alone, and copies are kept for a year."""
+        self.write("2026-11-26/sizes", "book 10\nbook-wal 300\n")
+        status, said, book = self.restored("2026-11-26")
+        self.assertEqual((status, book), (1, "now"), said)
+        self.assertIn("2026-11-26 lacks book-wal 300 octets: take another copy", said)
+        for log in (300 * "l", 41 * "l"):
+            self.write("2026-11-26/book-wal", log)
+            self.assertEqual(self.restored("2026-11-26")[::2], (0, "2026-11-26"))
+
     def test_a_copy_that_was_asked(self):
         """sqlite3 puts the log into the file, and removes it: the copy is as sound as before."""
         place = lambda name: os.path.join(self.folder, name)

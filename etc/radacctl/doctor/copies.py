@@ -82,12 +82,14 @@ def lost(path):
     """The files of a copy that are shorter than `backup` wrote, as a restore has it: a check cuts a
     log to 41 octets if the file has all of it, and sqlite3 puts it into the file, which changes.
     """
-    wrote = re.findall(r"(?m)^(\d+) (\d+) (book(?:-wal)?)$", files.text(f"{path}/sizes"))
+    # A version before wrote lengths alone.
+    sizes = re.sub(r"(?m)^(book\S*) (\d+)$", r"- \2 \1", files.text(f"{path}/sizes"))
+    wrote = re.findall(r"(?m)^(\d+|-) (\d+) (book(?:-wal)?)$", sizes)
     for _, size, part in wrote:
         status = look.status_of(f"{path}/{part}")
         if status is None or status.st_size < int(size) and status.st_size != 41:
             said = look.run("cksum", f"{path}/book", seconds=1800)[1]
-            if part == "book" or said.split()[:1] == [wrote[0][0]]:
+            if part == "book" or wrote[0][0] in ("-", *said.split()[:1]):
                 yield part, size
 
 
