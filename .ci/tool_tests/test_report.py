@@ -134,6 +134,11 @@ class Report(Folder):
         with mock.patch("sqlite3.connect", connect):
             with self.assertRaisesRegex(program.Failed, "^no report can be made: .* is full$"):
                 self.reported()
+        # What is counted last needs such a file, too.
+        full = mock.patch.object(report.Report, "carried",
+                                 side_effect=sqlite3.OperationalError("database or disk is full"))
+        with full, self.assertRaisesRegex(program.Failed, "^no report can be made: .* is full$"):
+            self.reported()
 
 
 if __name__ == "__main__":

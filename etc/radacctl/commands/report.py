@@ -292,8 +292,8 @@ def main(words):
     # The disk of SQLite's temporary files may be full.
     with program.told(program.Failed, "no report can be made: ", sqlite3.OperationalError):
         report = Report(first, last, words.debit_class, cashiers)
-    tables = tables_of(report)
-    if words.csv:
-        write_all(tables, words.csv)
-    show(report, tables, title, (begin, end), words.top)
+        tables = tables_of(report)
+        if words.csv:
+            write_all(tables, words.csv)
+        show(report, tables, title, (begin, end), words.top)
     return 0 if report.is_explained() else 1
