@@ -139,6 +139,21 @@ class Existing(Folder):
         changed = [it.path for it in front.parts(wanted, config) if it.path.endswith("partner")]
         self.assertEqual(changed, [])
 
+    def test_a_client_beside_a_server_is_one_of_each_server(self):
+        """FreeRADIUS refuses a second one of its address, as the set-up would write it."""
+        own = "client {} {{\n\tipaddr = 10.0.7.{}\n\tsecret = of-the-partner\n}}\n"
+        text = SERVER.replace("server eduroam", "server partner").replace("1812", "2812")
+        lists = f"clients tunnel {{\n{own.format('radsec', 2)}}}\n"
+        self.put("sites-enabled/partner", own.format("first", 1) + text + lists
+                 + own.format("last", 3))
+        found = [(file, name) for file, name, *_ in freeradius.other_clients(["eduroam"])]
+        self.assertEqual([name for file, name in found if file == "sites-enabled/partner"],
+                         ["first", "last"])
+        one = {"name": "theirs", "address": "10.0.7.3", "vendor": "aruba"}
+        wanted = self.wanted(one, virtual_servers=["eduroam"])
+        self.assertNotIn("client theirs ", front.clients(None, wanted))
+        self.assertEqual(front.secret_of("theirs", "10.0.7.3"), "of-the-partner")
+
     def test_a_secret_is_read_as_freeradius_does(self):
         """In marks of either kind, in which nothing is a comment, or in none."""
         one = {"name": "wlc", "address": "10.0.0.1", "vendor": "aruba"}

@@ -261,9 +261,21 @@ def other_clients(servers=None):
     """The site's own clients: file, name, addresses and text of each. A virtual server may have
     some of its own, which no other one knows: those that the site sells by, or these.
     """
-    places = [*included(), *(f"sites-enabled/{it}" for it in servers or selling())]
+    sold = servers or selling()
+    texts = {it: text(it) for it in included()}
+    texts |= {f"sites-enabled/{it}": text("sites-enabled", it) for it in sold}
+    for it in enabled():
+        texts.setdefault(f"sites-enabled/{it}", of_all_servers(text("sites-enabled", it)))
     return [(file, name, network(name, block), block)
-            for file in dict.fromkeys(places) for name, block in blocks("client", text(file))]
+            for file, found in texts.items() for name, block in blocks("client", found)]
+
+
+def of_all_servers(text_of_file):
+    """What a file has outside of its virtual servers, and of lists of clients that one may name."""
+    for it in reversed([*re.finditer(r"(?m)^\s*(?:server|clients)\s+[\w.-]+\s*\{", text_of_file)]):
+        end = end_of_block(text_of_file, it.end())
+        text_of_file = text_of_file[: it.start()] + text_of_file[end + 1 :]
+    return text_of_file
 
 
 def client_at(address, servers=None):
