@@ -465,7 +465,7 @@ class Sound(unittest.TestCase):
         """A session that it resumes has no login in the tunnel."""
         inside = "server inner-tunnel {\npost-auth {\nradacctd_login\n}\n}\n"
         self.put(inside, "sites-enabled", "inner-tunnel")
-        for word, wanted in (("no", []), ("yes", ["tunnel-login"])):
+        for word, wanted in (("no", []), *((it, ["tunnel-login"]) for it in ("yes", "on", '"True"'))):
             self.put(f"tls {{\ncache {{\nenable = {word}\nstore {{\n}}\n}}\nocsp {{\nenable = yes\n"
                      "}\n}\npeap {\nvirtual_server = inner-tunnel\n}\n", "mods-enabled", "eap")
             self.assertEqual([it.name for it in fronts.tunnel()], wanted)

@@ -232,7 +232,7 @@ class Existing(Folder):
         """Its secret is another one then: the device would be ignored."""
         wanted = self.wanted(*({"name": f"b{it}", "address": it}
                                for it in ("10.0.0.1", "10.9.9.9")))
-        for word, count in (("no", 0), ("yes", 1)):
+        for word, count in (("no", 0), ("yes", 1), ("On", 1)):
             self.put("mods-enabled/sql", f"sql {{\n\tread_clients = {word}\n}}\n")
             told = [it for it in front.others(wanted) if "table nas" in it]
             self.assertEqual([it.split()[0] for it in told], ["b10.9.9.9"] * count)

@@ -134,8 +134,9 @@ class Doctor(unittest.TestCase):
         self.text, self.plans = PACKAGE, {"gold": ()}
         self.assertEqual(self.found(), {"packages-file"})
         self.plans = None
-        self.edit("radiusd.conf", "auth = no", "auth = yes")
-        self.assertEqual(self.found(), {"packages-logged"})
+        for before, now in (("auth = no", "auth = yes"), ("auth = yes", "auth_accept = on")):
+            self.edit("radiusd.conf", before, now)
+            self.assertEqual(self.found(), {"packages-logged"})
 
 
 class Steps(unittest.TestCase):

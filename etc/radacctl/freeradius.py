@@ -82,6 +82,11 @@ def value(block, name):
     return found[1:-1] if found[:1] in ("'", '"') else found
 
 
+def is_on(block, name):
+    """Whether a switch is on, in each way that FreeRADIUS spells it."""
+    return value(block, name).lower() in ("yes", "on", "true")
+
+
 def with_value(text, name, value):
     """A block in which a name has this value. One of an earlier version lacks some names."""
     found = re.search(rf"(?m)^(?:[^#\n]*,)?[ \t]*{name}[ \t]*=[ \t]*({QUOTED}|[^\s,]+)", text)

@@ -111,7 +111,7 @@ def tunnel():
                         "logins by PEAP and TTLS are refused", f"step 7 of {PAGE}")
     for name in freeradius.eaps() if freeradius.tunnels() else []:
         found = freeradius.blocks("cache", freeradius.text(name))
-        if any(freeradius.value(block, "enable") == "yes" for _, block in found):
+        if any(freeradius.is_on(block, "enable") for _, block in found):
             yield Fault("tunnel-login", f"{name} has a cache: logins that it resumes are refused",
                         "write enable = no into its cache, and restart freeradius")
 

@@ -26,7 +26,7 @@ def look_at(kind):
     yield from databases()
     yield from file_of_packages()
     log = freeradius.section(freeradius.text("radiusd.conf"), "log")
-    if re.search(r"(?m)^\s*auth(_accept|_reject)?\s*=\s*yes", log):
+    if any(freeradius.is_on(log, it) for it in ("auth", "auth_accept", "auth_reject")):
         yield Fault("packages-logged", "radiusd.conf logs the names of logins, which may be codes",
                     "set auth = no in its section log, and restart freeradius")
 

@@ -304,7 +304,7 @@ def others(answers):
     that may be in a table, which is not looked at.
     """
     found = dict(freeradius.access_servers())
-    has_table = freeradius.value(freeradius.text("mods-enabled", "sql"), "read_clients") == "yes"
+    has_table = freeradius.is_on(freeradius.text("mods-enabled", "sql"), "read_clients")
     for it in answers.access_servers if answers.has_front else []:
         there = freeradius.client_at(it["address"], selling(answers))
         if has_table and not there and it["name"] not in found:
