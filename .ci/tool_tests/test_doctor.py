@@ -727,6 +727,12 @@ class Unseen(unittest.TestCase):
             for octets, wanted in ((b"x", []), (b"", [("book", "1")])):
                 files.replace(f"{path}/book", octets)
                 self.assertEqual([*copies.lost(path)], wanted)
+            # One that had nothing goes if sqlite3 is asked, and the file stays.
+            files.replace(f"{path}/sizes", f"{said}7 41 book-wal\n".encode())
+            files.replace(f"{path}/book", b"x")
+            os.remove(f"{path}/book-wal")
+            self.assertEqual([*copies.lost(path)], [])
+            files.make(f"{path}/book-wal", b"l" * 41)
             # A version before wrote no sums.
             files.replace(f"{path}/sizes", b"book 1\nbook-wal 50\n")
             files.replace(f"{path}/book", b"x")

@@ -100,6 +100,10 @@ class Restore(unittest.TestCase):
             self.assertEqual(self.restored("2026-11-26")[::2], (0, "2026-11-26"))
         self.write("2026-11-26/book-wal", "")
         self.assertEqual(self.restored("--unsound", "2026-11-26")[::2], (0, "2026-11-26"))
+        # One that had nothing goes if sqlite3 is asked, and the file stays.
+        self.write("2026-11-26/sizes", f"{sums}7 41 book-wal\n")
+        os.remove(f"{self.folder}/2026-11-26/book-wal")
+        self.assertEqual(self.restored("2026-11-26")[::2], (0, "2026-11-26"))
         self.write("2026-11-26/book", "2026-11")
         self.assertIn("2026-11-26 lacks book 10 octets", self.restored("2026-11-26")[1])
 

@@ -10,6 +10,8 @@ from radacctl.doctor.faults import Fault
 
 OLDEST = 36 * 3600
 NAME = re.compile(r"\d{4}-\d{2}-\d{2}(?:\.\d{6})?")
+# The octets of a log that has nothing.
+EMPTY_LOG = 41
 NOW = "systemctl start radacctd-nightly; journalctl -u radacctd-nightly -n 20"
 
 
@@ -80,14 +82,16 @@ def newest(folder, name):
 
 def lost(path):
     """The files of a copy that are shorter than `backup` wrote, as a restore has it: a check cuts a
-    log to 41 octets if the file has all of it, and sqlite3 puts it into the file, which changes.
+    log if the file has all of it, and sqlite3 puts it into the file, which changes.
     """
     # A version before wrote lengths alone.
     sizes = re.sub(r"(?m)^(book\S*) (\d+)$", r"- \2 \1", files.text(f"{path}/sizes"))
     wrote = re.findall(r"(?m)^(\d+|-) (\d+) (book(?:-wal)?)$", sizes)
     for _, size, part in wrote:
         status = look.status_of(f"{path}/{part}")
-        if status is None or status.st_size < int(size) and status.st_size != 41:
+        has = status.st_size if status else -1
+        is_empty = part == "book-wal" and (has == EMPTY_LOG or int(size) <= EMPTY_LOG)
+        if has < int(size) and not is_empty:
             said = look.run("cksum", f"{path}/book", seconds=1800)[1]
             if part == "book" or wrote[0][0] in ("-", *said.split()[:1]):
                 yield part, size
