@@ -38,7 +38,7 @@ ODD = [*NAMES[:28], b"0x616c", b"0xzz", b"0x4", b"0x", b"1234567890", b"12345678
        b"=", b"a/b", b"a:b", b"Ab", b"aB"]
 PLAIN = [b"al", b"bo", b"Al", b"room 12", "müller".encode(), b"t-0123456789ab"]
 IDS = [b"s1", b"s2", b"8100", b"00000001", b"al", b"0001:0002", b":1", b"a:", b"5E3A9C00/11",
-       b"x" * 150, b"x" * 151, b"x" * 252 + b"y", b"x" * 253]
+       b"x" * 150, b"x" * 151, b"x" * 252 + b"y", b"x" * 253, b"\0" * 252 + b"y", b"\0" * 253]
 CLASSES = [b"gold", b"silver", b"hour", b"free", b"up", b"default", "größe".encode(), b"GOLD",
            b"brass", b"ai:0011223344", b"\x00\xff\x01", b"OU=sales", b"0x676f6c64", b"x" * 253,
            b"gold\\", b"g;old", b"gold;", b"a'b", b"%{User-Name}", b"hour2"]

@@ -55,6 +55,15 @@ class Queue(Folder):
         self.assertEqual(self.said(*(f"{name}={it}" for name, it in report.items())), "ok")
         self.assertEqual(len(self.queued()), 1)
 
+    def test_a_text_of_which_the_reader_would_die(self):
+        """One of 1,024 octets ends FreeRADIUS at each start. Each octet is up to four there."""
+        report = ["Acct-Status-Type=00000003", "User-Name=616c"]
+        self.assertEqual(self.said(*report, "Acct-Session-Id=" + 256 * "00"),
+                         "a text is too long for the queue")
+        self.assertEqual(self.queued(), [])
+        for octets in (253 * "00", 600 * "61"):
+            self.assertEqual(self.said(*report, "Acct-Session-Id=" + octets), "ok")
+
     def test_where_each_is_written_and_what_a_fault_says(self):
         report = ["Acct-Status-Type=00000003", "Acct-Session-Id=4131", "User-Name=616c"]
         cut = ["from=10.0.0.1", *report[1:]]
