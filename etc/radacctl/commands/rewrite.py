@@ -141,7 +141,7 @@ class Rewrite:
             raise Failed(f"{self.book} is no file")
         if os.geteuid() != status.st_uid:
             raise Failed(f"{self.book} is another user's: be root, and let that user own its "
-                               "folder")
+                         "folder")
         # One rewrite or restore at a time in a folder. The lock ends with this process.
         if not files.is_locked(os.open(self.folder, os.O_RDONLY)):
             raise Failed(f"another rewrite or a restore is in {self.folder}")
@@ -155,8 +155,7 @@ class Rewrite:
             return
         is_own = stat.S_ISDIR(os.lstat(self.new_folder).st_mode)
         if not is_own or not set(os.listdir(self.new_folder)) <= set(PARTS):
-            raise Failed(f"{self.new_folder} is in the way, and no rewrite made it: move it "
-                               "away")
+            raise Failed(f"{self.new_folder} is in the way, and no rewrite made it: move it away")
         for name in PARTS:
             remove(os.path.join(self.new_folder, name))
         os.rmdir(self.new_folder)
@@ -182,7 +181,6 @@ class Rewrite:
         if process.returncode:
             raise Failed(f"`radacctd export {what}` of {book}: status {process.returncode}")
         return found
-
 
     def fill(self):
         """Copies all rows into the new file, and compares them. SQLite copies the log into the file
@@ -267,7 +265,6 @@ class Rewrite:
             # A start that opened the old file before it lost its name finds it locked.
             time.sleep(1)
         return sizes
-
 
     def run(self):
         self.begin()
