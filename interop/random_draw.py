@@ -35,7 +35,7 @@ ODD = [*NAMES[:28], b"0x616c", b"0xzz", b"0x4", b"0x", b"1234567890", b"12345678
        b"18446744073709551617", b"CORP\\nick", b"corp\\tom", b"a\\101", b"al\\", b"bo\\",
        b"a\\\\", b"\\", b"#", b"a, b = c", b"a\nTimestamp = 0", b"Attr-42 = 0x00", b";radacctd;",
        b"`id`", b"$x", bytes(range(1, 254)), b"\xff" * 253, b'"' * 253, b"\\" * 253, b"%" * 253,
-       b"=", b"a/b", b"a:b", b"Ab", b"aB"]
+       b"=", b"a/b", b"a:b", b"Ab", b"aB", b"do\\\0\xff"]
 PLAIN = [b"al", b"bo", b"Al", b"room 12", "müller".encode(), b"t-0123456789ab"]
 IDS = [b"s1", b"s2", b"8100", b"00000001", b"al", b"0001:0002", b":1", b"a:", b"5E3A9C00/11",
        b"x" * 150, b"x" * 151, b"x" * 252 + b"y", b"x" * 253, b"\0" * 252 + b"y", b"\0" * 253]
