@@ -105,6 +105,7 @@ class Slowed:
         self.bought(500)
         started(self.site)
         self.nas = {it: Nas(it) for it in (COA, PLAIN)}
+        self.pause_ends = 0
 
     def bought(self, left, **more):
         """Writes what is left, and lets FreeRADIUS know it."""
@@ -126,10 +127,13 @@ class Slowed:
         check("a report is answered", self.site.radius.reports(source, lines), True)
 
     def asks(self, source, *what, **more):
-        """What the access server is asked after a report."""
-        time.sleep(1.2)
+        """What the access server is asked after a report. FreeRADIUS counts the pause in whole
+        seconds: what was asked in one is asked again in the second one after it.
+        """
+        time.sleep(max(0, self.pause_ends - time.monotonic()))
         self.nas[source].asked()
         self.reports(source, **more)
+        self.pause_ends = time.monotonic() + 2
         waits = 60 if what else 3
         end = time.monotonic() + waits
         while len(self.nas[source].found) < max(len(what), 1) and time.monotonic() < end:
