@@ -7,6 +7,7 @@ import sys
 
 import __main__
 
+NOT_BUILT = "the program is not built of these sources: bin/build"
 IS_BUILT = os.path.join(os.path.dirname(os.path.abspath(__file__)), "..", "bin", "is-built")
 
 
@@ -31,6 +32,17 @@ def words(*numbers, parts=()):
     return [*found, given or list(parts)] if parts else found
 
 
+def is_built():
+    return subprocess.run([IS_BUILT]).returncode == 0
+
+
+def must_be_built():
+    """Ends with the status 2 if bin/install, which takes no other program, would have to build."""
+    if not is_built():
+        print(NOT_BUILT, file=sys.stderr)
+        sys.exit(2)
+
+
 def is_missing(tools, is_root=False):
     """Whether a tool is missing, which a package has, or root or the program is: it prints what. No
     script is to build the program for an hour. RADACCTD in the environment names another one.
@@ -39,8 +51,8 @@ def is_missing(tools, is_root=False):
              if shutil.which(tool) is None]
     if is_root and os.geteuid():
         lacks.append("run this as root")
-    if "RADACCTD" not in os.environ and subprocess.run([IS_BUILT]).returncode:
-        lacks.append("the program is not built of these sources: bin/build")
+    if "RADACCTD" not in os.environ and not is_built():
+        lacks.append(NOT_BUILT)
     if lacks:
         print(*lacks, sep="\n", file=sys.stderr)
     return bool(lacks)

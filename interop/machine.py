@@ -52,6 +52,7 @@ def run(words, **more):
 
 def staged(folder):
     """Puts below a folder of this machine what bin/install puts in place."""
+    command_line.must_be_built()
     root = os.path.dirname(os.path.dirname(os.path.abspath(__file__)))
     status, text = run([f"{root}/bin/install"], env={**os.environ, "DESTDIR": folder})
     if status:

@@ -15,6 +15,7 @@ import tempfile
 import time
 
 import books
+import command_line
 from served import PLANS, ROOT, check, free_port
 
 USER = "radacctd"
@@ -217,6 +218,7 @@ def serving(folder):
 
 def install(folder):
     """The installation: bin/install, and the tools if it leaves them out."""
+    command_line.must_be_built()
     prefix = os.path.join(folder, "installed")
     status, _, errors = run([os.path.join(ROOT, "bin", "install"), prefix], umask=0o077)
     check("bin/install", (status, errors), (0, ""))
