@@ -133,8 +133,8 @@ pub record TellsForward {B : Type 0} (b : Ghosts B) (plans : List Plan) (carryin
   pub carried : carrying.is_dry ≡ false
       → CountsUpTo b (selected carrying moment) plans old new totals.sessions.carried
 
--- A run of `forward`: what it did to the book, and what it printed if it ended well. `b.is_open new`
--- means that the contents are known.
+-- A run of `forward`: what it did to the book, and what it printed if it ended well.
+-- `b.is_open new` means that the contents are known.
 pub record RunsForward {B T E : Type 0} (b : Ghosts B) (plans : List Plan) (carrying : Carrying)
     (moment written_at : ℕ) (before after : Option (List ℕ)) (old new : B) (ended : Result T E)
     : Type 0 where

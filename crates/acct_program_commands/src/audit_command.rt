@@ -27,8 +27,8 @@ const STEP: u64 = 100_000;
 /// Prints the sizes of a configuration. Then compares each balance of a book with its vouchers and
 /// sessions, by the configuration's plans (`acct_book_audit::audit`). It prints each account that
 /// is wrong, and each session or voucher of an account without a balance. If there is none, it
-/// prints how many of each there are. `progress` gets a line now and then. Returns how it ended, and
-/// the output.
+/// prints how many of each there are. `progress` gets a line now and then. Returns how it ended,
+/// and the output.
 ///
 /// # Errors
 ///
