@@ -34,16 +34,6 @@ class Queue(Folder):
     def queued(self):
         return [it for _, _, files in os.walk(os.path.join(self.folder, "queue")) for it in files]
 
-    def test_no_thread_has_a_locale_of_its_own(self):
-        """By one of UTF-8 the policies find no plan `größe` in Debian 13's FreeRADIUS."""
-        shown = "print POSIX::setlocale(POSIX::LC_CTYPE(), ''), '>'; CLONE();"
-        shown = f"our %RAD_PERLCONF; do shift; {shown} print POSIX::setlocale(POSIX::LC_CTYPE())"
-        for name in ("queue.pl", "logins.pl"):
-            words = ["perl", "-MPOSIX=", "-e", shown, os.path.join(os.path.dirname(QUEUE), name)]
-            env = {**os.environ, "LC_ALL": "C.UTF-8"}
-            said = subprocess.check_output(words, env=env, text=True)
-            self.assertEqual(said, "C.UTF-8>C", name)
-
     def test_a_report_that_nobody_would_pay_is_sent_again(self):
         """An expansion that failed leaves nothing behind its name."""
         report = {"Acct-Status-Type": "00000003", "Acct-Session-Id": "4131", "User-Name": "616c"}

@@ -22,11 +22,6 @@ use warnings FATAL => "all";
 use Digest::MD5 qw(md5_hex);
 use Fcntl qw(:DEFAULT :seek);
 use IO::Handle;
-use POSIX ();
-
-# As in queue.pl.
-sub CLONE { POSIX::setlocale(POSIX::LC_ALL(), "C") }
-CLONE();
 
 # The module's section `config`: the path `file`, and `counts`, a path to which KIND and SOURCE are
 # added.
