@@ -2,6 +2,8 @@
 #![tactic(auto)]
 
 #[cfg(test)]
+mod hmacs;
+#[cfg(test)]
 mod names;
 #[cfg(test)]
 mod packets;
