@@ -13,18 +13,18 @@ use Rattle.acct_model.specs.Shown.{shown, is_escaped}
 abbrev set : AsciiSet
 set = record { mask = 170141183460469231731687303857618026495 }
 
-same : Bool → Bool → Bool
+unfoldable pub same : Bool → Bool → Bool
 same true b = b
 same false b = not b
 
-same-true : (a b : Bool) → same a b ≡ true → a ≡ b
+pub same-true : (a b : Bool) → same a b ≡ true → a ≡ b
 unfolding same
 same-true true true e = refl
 same-true true false e = sym e
 same-true false true e = e
 same-true false false e = refl
 
-below : (ℕ → Bool) → ℕ → Bool
+unfoldable pub below : (ℕ → Bool) → ℕ → Bool
 below p zero = true
 below p (suc n) = p n && below p n
 
@@ -33,7 +33,7 @@ and_both true true e = (refl, refl)
 and_both true false e = absurd (true≢false (sym e))
 and_both false q e = absurd (true≢false (sym e))
 
-below-each : (p : ℕ → Bool) (n : ℕ) → below p n ≡ true → (k : ℕ) → k < n → p k ≡ true
+pub below-each : (p : ℕ → Bool) (n : ℕ) → below p n ≡ true → (k : ℕ) → k < n → p k ≡ true
 unfolding below
 below-each p zero e k h = absurd (omega (arith, h))
 below-each p (suc n) e k h =

@@ -10,6 +10,16 @@ pub mod PlanFaults
 pub mod Refusals
 -- shown octets read back
 pub mod Escapes
+-- what coded octets are, and that they read back
+pub mod CodedOctets
+-- where octets are cut
+pub mod Cuts
+-- the laws of stamps
+pub mod StampLaws
+-- parts that are joined one by one
+pub mod Joins
+-- what equal lengths and a walk say of equal octets
+pub mod Walked
 -- the tests `bytes_eq`, `same_session` and `same_voucher` decide equality
 pub mod Same
 -- sums over the distinct elements of a list

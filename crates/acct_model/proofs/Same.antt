@@ -9,11 +9,11 @@ use Rattle.acct_model.specs.History.{SessionName, same_session, Voucher, same_vo
 pub Decides-bytes_eq : (a b : List ℕ) → Decides (bytes_eq a b) (a ≡ b)
 Decides-bytes_eq a b = bytes_decides a b
 
-and_both : (p q : Bool) → (p && q) ≡ true → (p ≡ true) × (q ≡ true)
+pub and_both : (p q : Bool) → (p && q) ≡ true → (p ≡ true) × (q ≡ true)
 and_both true q e = (refl, e)
 and_both false q e = absurd (true≢false (sym e))
 
-both_and : (p q : Bool) → p ≡ true → q ≡ true → (p && q) ≡ true
+pub both_and : (p q : Bool) → p ≡ true → q ≡ true → (p && q) ≡ true
 both_and p q e f = rw (e, f) refl
 
 -- a test fails if the fact does not hold

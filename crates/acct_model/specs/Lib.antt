@@ -8,6 +8,10 @@ pub mod Numbers
 pub mod Entries
 pub mod FirstValues
 pub mod Shown
+pub mod Coded
+pub mod Secrets
+pub mod Stamps
+pub mod StampLaws
 pub mod History
 pub mod Claims
 pub mod Agreement

@@ -8,6 +8,7 @@ ghost use Rattle.acct_model.specs.MoneyLaws.{SessionIsCharged, MoneyMovesOnce};
 ghost use Rattle.acct_model.specs.KeptLaws.{PlansAreKept};
 ghost use Rattle.acct_model.specs.Forward.{SessionsStandAlone, ForwardMovesNothing, ForwardGoesOn};
 ghost use Rattle.acct_model.specs.Course.{ForwardSettles};
+ghost use Rattle.acct_model.specs.StampLaws.{StampsAreRead, StampsDiffer, SessionsDiffer};
 
 /// The blocks that a price counts cover the octets, and fewer do not.
 pub fn started_blocks_are_least()
@@ -108,4 +109,21 @@ pub fn forward_goes_on()
 /// accepted later, the balances are those of what was sent.
 pub fn forward_settles()
     ensures { ForwardSettles }
+{}
+
+/// A value is read as a stamp if, and only if, a secret of the site made it, and as what it was
+/// made of.
+pub fn stamps_are_read()
+    ensures { StampsAreRead }
+{}
+
+/// Stamps of different plans, logins or accounts differ, whoever made them.
+pub fn stamps_differ()
+    ensures { StampsDiffer }
+{}
+
+/// Two sessions of a stamped client have one name only if their own ids, their logins and who pays
+/// for them are the same.
+pub fn stamped_sessions_differ()
+    ensures { SessionsDiffer }
 {}

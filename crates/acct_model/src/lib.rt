@@ -17,6 +17,7 @@
 #![tactic(auto)]
 
 mod address;
+mod coded;
 mod entry;
 mod entry_reader;
 mod first_values;
@@ -29,11 +30,13 @@ mod plan_list;
 mod plans;
 mod report;
 mod shown;
+mod stamp;
 pub mod status_values;
 mod text;
 mod top_up;
 
 pub use address::{address_of, show_address};
+pub use coded::coded_text;
 pub use entry::{Entry, Restart};
 pub use entry_reader::{EntryError, entry_of};
 pub use kept_limits::LAST_MOMENT;
@@ -44,5 +47,6 @@ pub use plan_list::PlanList;
 pub use plans::{PlanError, Plans};
 pub use report::{Report, ReportKind};
 pub use shown::{NoMemory, show, unshow};
+pub use stamp::{LONGEST_STAMP, Stamp, StampSecret, StampSecrets, are_same, is_login, signature};
 pub use text::Text;
 pub use top_up::{TopUp, TopUpError, is_account};

@@ -12,4 +12,6 @@ mod plans;
 #[cfg(test)]
 mod shown;
 #[cfg(test)]
+mod stamps;
+#[cfg(test)]
 mod top_ups;
