@@ -24,10 +24,11 @@ use Rattle.acct_book.proofs.StepLemmas.{Settles, unasked_by, only_looked_by}
 use Rattle.acct_desk.specs.declared.asking.Refusal.{Refusal}
 use Rattle.acct_desk_pages.specs.declared.bodies.PageError.{PageError}
 use Rattle.acct_desk_pages.specs.declared.bodies.PageError.TheVariants.{Unavailable, Memory}
-use Rattle.acct_desk.specs.Asks.{Ask, refused, me, overruns, credit}
+use Rattle.acct_desk.specs.Asks.{Ask, refused, me, overruns, look, credit}
 use Rattle.acct_desk.specs.Handling.{AnswersAsk, AnswersOrMutes, TellsAsk, Mutes, IsOfBalance}
 use Rattle.acct_desk.specs.Handling.{Handles}
-use Rattle.acct_desk.specs.inner.Pages.{Shows, IsPageResponse}
+use Rattle.acct_desk.specs.inner.Pages.{Shows, ShowsBy, IsPageResponse, IsResponseBy}
+use Rattle.acct_desk.specs.inner.Pages.{page_of}
 use Rattle.acct_desk.specs.Responses.{refusal_response}
 use Rattle.acct_desk_pages.specs.Responses.{response_of, unavailable_response}
 use Rattle.acct_desk.specs.Responses.{recorded_response}
@@ -50,6 +51,7 @@ mute_mutes : (ask : Ask) → Mutes ask unasked
 mute_mutes (refused refusal) = refl
 mute_mutes (me page account) = inl refl
 mute_mutes overruns = inl refl
+mute_mutes (look query) = inl refl
 mute_mutes (credit topup) = refl
 
 refused_alone : {E : Type 0} (refusal : Refusal) (result : Result (Vec ℕ Global) E)
@@ -90,17 +92,19 @@ module _ {B E : Type 0} (b : Ghosts B) (plans : List Plan) where
 
 -- ---- a page
 
--- the request is for a page
+-- the request is for what the book is only read for
 abbrev pub IsOfPage : Ask → Type 0
 IsOfPage (refused refusal) = ⊥
 IsOfPage (me page account) = Unit {0}
 IsOfPage overruns = Unit {0}
+IsOfPage (look query) = Unit {0}
 IsOfPage (credit topup) = ⊥
 
 page_mutes : (ask : Ask) → IsOfPage ask → Mutes ask passed
 page_mutes (refused refusal) none = absurd none
 page_mutes (me page account) of = inr refl
 page_mutes overruns of = inr refl
+page_mutes (look query) of = inr refl
 page_mutes (credit topup) none = absurd none
 
 page_answers : (ask : Ask) (octets : List ℕ) (effect : Effect) → IsOfPage ask
@@ -109,82 +113,77 @@ page_answers : (ask : Ask) (octets : List ℕ) (effect : Effect) → IsOfPage as
 page_answers (refused refusal) octets effect none h = absurd none
 page_answers (me page account) octets effect of h = h
 page_answers overruns octets effect of h = h
+page_answers (look query) octets effect of h = h
 page_answers (credit topup) octets effect none h = absurd none
 
--- what a page did
-abbrev pub page_effect : {E : Type 0} → Result Value PageError → Result (Vec ℕ Global) E → Effect
-page_effect (Ok body) (Ok octets) = looked
+-- what reading did
+abbrev pub page_effect : {T E : Type 0} → Result T PageError → Result (Vec ℕ Global) E → Effect
+page_effect (Ok t) (Ok octets) = looked
 page_effect (Err error) (Ok octets) = passed
 page_effect page (Err e) = passed
 
-module _ {B E : Type 0} (b : Ghosts B) (plans : List Plan) (ask : Ask) (old new : B)
-    (settles : Settles b) where
-  page_own : (page : Result Value PageError) (result : Result (Vec ℕ Global) E)
+module _ {B T E : Type 0} (of_told : T → ℕ × Data) (b : Ghosts B) (plans : List Plan) (ask : Ask)
+    (old new : B) (settles : Settles b) where
+  page_own : (page : Result T PageError) (result : Result (Vec ℕ Global) E)
       → IsOwn (page_effect page result)
-  page_own (Ok body) (Ok octets) = tt
+  page_own (Ok t) (Ok octets) = tt
   page_own (Err error) (Ok octets) = tt
   page_own page (Err e) = tt
 
-  page_asked : (page : Result Value PageError) (result : Result (Vec ℕ Global) E)
+  page_asked : (page : Result T PageError) (result : Result (Vec ℕ Global) E)
       → IsUnasked (page_effect page result) → ⊥
-  page_asked (Ok body) (Ok octets) none = none
+  page_asked (Ok t) (Ok octets) none = none
   page_asked (Err error) (Ok octets) none = none
   page_asked page (Err e) none = none
 
-  page_stays : (page : Result Value PageError) (result : Result (Vec ℕ Global) E)
+  page_stays : (page : Result T PageError) (result : Result (Vec ℕ Global) E)
       (history : History) → after_effect history (page_effect page result) ≡ history
-  page_stays (Ok body) (Ok octets) history = refl
+  page_stays (Ok t) (Ok octets) history = refl
   page_stays (Err error) (Ok octets) history = refl
   page_stays page (Err e) history = refl
 
-  page_holds : (page : Result Value PageError) (result : Result (Vec ℕ Global) E)
+  page_holds : (page : Result T PageError) (result : Result (Vec ℕ Global) E)
       (history : History) → Holds plans history (page_effect page result)
-  page_holds (Ok body) (Ok octets) history = tt
+  page_holds (Ok t) (Ok octets) history = tt
   page_holds (Err error) (Ok octets) history = tt
   page_holds page (Err e) history = tt
 
-  page_open : (page : Result Value PageError) (result : Result (Vec ℕ Global) E)
-      → Shows plans ask b old new page
+  page_open : (page : Result T PageError) (result : Result (Vec ℕ Global) E)
+      → ShowsBy of_told plans ask b old new page
       → b.is_sound new → IsTold (page_effect page result) → b.is_open new
-  page_open (Ok body) (Ok octets) shows sound told = shows.answers sound
+  page_open (Ok t) (Ok octets) shows sound told = shows.answers sound
   page_open (Err error) (Ok octets) shows sound told = absurd told
   page_open page (Err e) shows sound told = absurd told
 
-  page_says : (page : Result Value PageError) (result : Result (Vec ℕ Global) E) → IsOfPage ask
-      → IfOk result (λ octets. IsPageResponse page octets.items)
+  page_says : (page : Result T PageError) (result : Result (Vec ℕ Global) E) → IsOfPage ask
+      → IfOk result (λ octets. IsResponseBy of_told page octets.items)
       → AnswersOrMutes ask result (page_effect page result)
-  page_says (Ok body) (Ok octets) of is = page_answers ask octets.items looked of (inl refl)
+  page_says (Ok t) (Ok octets) of is = page_answers ask octets.items looked of (inl refl)
   page_says (Err Unavailable) (Ok octets) of is =
       page_answers ask octets.items passed of (inr (is, refl))
   page_says (Err Memory) (Ok octets) of is = absurd is
   page_says page (Err e) of is = page_mutes ask of
 
-  page_tells : (page : Result Value PageError) (result : Result (Vec ℕ Global) E)
-      → Shows plans ask b old new page
-      → IfOk result (λ octets. IsPageResponse page octets.items)
+  page_tells : (page : Result T PageError) (result : Result (Vec ℕ Global) E)
+      → ShowsBy of_told plans ask b old new page
+      → IfOk result (λ octets. IsResponseBy of_told page octets.items)
       → b.is_sound new → (history : History) → StoodFor b plans old history
       → IfOk result (λ octets. TellsAsk plans history ask octets.items (page_effect page result))
-  page_tells (Ok body) (Ok octets) shows is sound history stood =
+  page_tells (Ok t) (Ok octets) shows is sound history stood =
       let opened = shows.answers sound in
-      λ _. (view body, shows.told opened history (stood (shows.reads.was_open opened)), is)
+      λ _. (of_told t, shows.told opened history (stood (shows.reads.was_open opened)), is)
   page_tells (Err error) (Ok octets) shows is sound history stood = λ e. absurd (cc e)
   page_tells page (Err e) shows is sound history stood = tt
 
-  page_steady : (page : Result Value PageError) (result : Result (Vec ℕ Global) E)
-      → page ≢ Err Unavailable → IfOk result (λ octets. IsPageResponse page octets.items)
-      → IfOk result (λ octets. octets.items ≢ unavailable_response)
-  page_steady (Ok body) (Ok octets) told is = λ e. told-unavailable (view body) (sym is ∙ e)
-  page_steady (Err Unavailable) (Ok octets) told is = absurd (told refl)
-  page_steady (Err Memory) (Ok octets) told is = absurd is
-  page_steady page (Err e) told is = tt
-
-  -- a request for a page
-  pub page_handles : (page : Result Value PageError) (result : Result (Vec ℕ Global) E)
-      → IsOfPage ask → (b.is_steady old → IsOfBalance ask → page ≢ Err Unavailable)
-      → Shows plans ask b old new page
-      → IfOk result (λ octets. IsPageResponse page octets.items)
+  -- what was read
+  pub read_handles : (page : Result T PageError) (result : Result (Vec ℕ Global) E)
+      → IsOfPage ask
+      → (b.is_steady old → IsOfBalance ask
+      → IfOk result (λ octets. octets.items ≢ unavailable_response))
+      → ShowsBy of_told plans ask b old new page
+      → IfOk result (λ octets. IsResponseBy of_told page octets.items)
       → Handles b plans ask old new result
-  page_handles page result of steady shows is = record {
+  read_handles page result of steady shows is = record {
     effect = page_effect page result;
     answers = page_says page result of is;
     does = only_looked_by b plans old new (page_effect page result) shows.reads.was_sound
@@ -193,8 +192,27 @@ module _ {B E : Type 0} (b : Ghosts B) (plans : List Plan) (ask : Ask) (old new 
         (page_open page result shows)
         (λ _ history _. page_holds page result history) settles;
     tells = page_tells page result shows is;
-    steady = λ s balance. page_steady page result (steady s balance) is;
+    steady = steady;
   }
+
+page_steady : {E : Type 0} (page : Result Value PageError) (result : Result (Vec ℕ Global) E)
+    → page ≢ Err Unavailable → IfOk result (λ octets. IsPageResponse page octets.items)
+    → IfOk result (λ octets. octets.items ≢ unavailable_response)
+page_steady (Ok body) (Ok octets) told is = λ e. told-unavailable (view body) (sym is ∙ e)
+page_steady (Err Unavailable) (Ok octets) told is = absurd (told refl)
+page_steady (Err Memory) (Ok octets) told is = absurd is
+page_steady page (Err e) told is = tt
+
+-- a request for a page
+pub page_handles : {B E : Type 0} (b : Ghosts B) (plans : List Plan) (ask : Ask) (old new : B)
+    → Settles b → (page : Result Value PageError) (result : Result (Vec ℕ Global) E)
+    → IsOfPage ask → (b.is_steady old → IsOfBalance ask → page ≢ Err Unavailable)
+    → Shows plans ask b old new page
+    → IfOk result (λ octets. IsPageResponse page octets.items)
+    → Handles b plans ask old new result
+page_handles b plans ask old new settles page result of steady shows is =
+    read_handles page_of b plans ask old new settles page result of
+    (λ s balance. page_steady page result (steady s balance) is) shows is
 
 -- ---- a top-up
 

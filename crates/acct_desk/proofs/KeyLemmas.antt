@@ -21,7 +21,8 @@ use Rattle.acct_book.proofs.MapSteps.{vec_cmp}
 use Rattle.acct_model.proofs.Faults.{faultless_more}
 use Rattle.acct_desk.specs.declared.keys.DeskKey.{DeskKey}
 use Rattle.acct_desk.specs.declared.keys.KeysError.TheVariants.{TwiceKeyed}
-use Rattle.acct_desk.specs.Keys.{has_token, is_token_text}
+use Rattle.std.proofs.lemmas.List.Folds.{list_any-append}
+use Rattle.acct_desk.specs.Keys.{has_token, is_token_text, is_for_logins}
 use Rattle.acct_desk.specs.KeyFaults.{key_fault, keys_fault, place_at, ArePlaces}
 
 -- ---- faults
@@ -129,6 +130,20 @@ is_among places keys token b placed is = sym (is_some-position_from (has_token t
 pub on_ok : {T E : Type 0} (r : Result T E) (P : Type 0) → is_err r ≡ false → OnOk r P → P
 on_ok (Ok x) P is h = h
 on_ok (Err e) P is h = absurd (cc)
+
+-- ---- one more key
+
+or_nothing : (b : Bool) → b ≡ (b || false)
+or_nothing true = refl
+or_nothing false = refl
+
+-- whether one of the keys is for logins
+pub told_more : (keys : List DeskKey) (key : DeskKey) (told : Bool)
+    → told ≡ list_any is_for_logins keys
+    → (told || is_for_logins key) ≡ list_any is_for_logins (keys ++ key ∷ [])
+told_more keys key told is =
+    (λ i. is i || or_nothing (is_for_logins key) i)
+    ∙ sym (list_any-append is_for_logins keys (key ∷ []))
 
 -- ---- one more place
 

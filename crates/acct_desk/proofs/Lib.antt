@@ -3,9 +3,11 @@ pub mod FramingLemmas
 pub mod RouteLemmas
 pub mod KeyLemmas
 pub mod AskLemmas
+pub mod CutLemmas
 pub mod PageLemmas
 pub mod HandleLemmas
 pub mod MemberLemmas
 pub mod PartLemmas
 pub mod HeadEndLemmas
 pub mod ReadingLemmas
+pub mod LoginLaws

@@ -2,7 +2,7 @@
 use Rattle.std.proofs.Common.{true≢false, ◌≡◌, ℕ, ℤ, Bool, true, false, cond, List, [], ◌∷◌}
 use Rattle.std.proofs.Common.{map, refl, ap, sym, ◌∙◌, subst}
 use Rattle.std.specs.Prelude.{Option, Some, None, Result, Ok, Err, IfOk, OnOk, IsOk, IsErr, pos}
-use Rattle.std.specs.Prelude.{negsuc, bytes_eq, nat_lt}
+use Rattle.std.specs.Prelude.{negsuc, bytes_eq, nat_lt, MatchBool, codes}
 use Rattle.std.specs.List.{filter_map, cons_option}
 use Rattle.serde_json.specs.Data.{Data, number}
 use Rattle.serde_json.specs.Find.{of_integer}
@@ -30,11 +30,16 @@ use Rattle.acct_book.proofs.WalkLaws.{walks-meet-all}
 use Rattle.acct_desk_pages.specs.declared.bodies.PageError.{PageError}
 use Rattle.acct_book.specs.declared.book.Unavailable as book
 use Rattle.acct_desk.specs.declared.asking.Page.TheVariants.{Balance}
-use Rattle.acct_desk.specs.Asks.{Ask, me}
+use Rattle.acct_desk.specs.Logins.{Login}
+use Rattle.acct_desk.specs.Asks.{Ask, me, login}
+use Rattle.acct_desk_pages.specs.declared.login.Heard.{Heard}
+use Rattle.acct_desk_pages.specs.Logins.{is_short, login_body, number_or_null, paid_octets}
+use Rattle.acct_desk_pages.specs.Logins.{stations_heard}
+use Rattle.acct_desk_pages.specs.Responses.{error_body}
 use Rattle.acct_desk_pages.specs.Bodies.{balance_body, session_item, sessions_body, topup_item}
 use Rattle.acct_desk_pages.specs.Bodies.{topups_body, overrun_item, overrun_in, overruns_body}
-use Rattle.acct_desk.specs.Handling.{IsBody, AreBalances}
-use Rattle.acct_desk.specs.inner.Pages.{Shows}
+use Rattle.acct_desk.specs.Handling.{IsTold, AreBalances, IsQueryTold}
+use Rattle.acct_desk.specs.inner.Pages.{Shows, ShowsBy, page_of}
 
 -- ---- bodies have no floats
 
@@ -96,9 +101,9 @@ overruns_plain es = rw (over_plain es) refl
 -- ---- a page that was read
 
 module _ {B : Type 0} (plans : List Plan) (ask : Ask) (b : Ghosts B) (old new : B) where
-  pub shows_none : (error : PageError) → OnlyLooks b old new
-      → Shows plans ask b old new (Err error)
-  shows_none error reads = record {
+  pub shows_none_by : {T : Type 0} (of : T → ℕ × Data) (error : PageError) → OnlyLooks b old new
+      → ShowsBy of plans ask b old new (Err error)
+  shows_none_by of error reads = record {
     reads = reads;
     answers = λ _. tt;
     plain = tt;
@@ -106,19 +111,37 @@ module _ {B : Type 0} (plans : List Plan) (ask : Ask) (b : Ghosts B) (old new : 
         λ _ _ _. tt;
   }
 
+  pub shows_by : {T : Type 0} (of : T → ℕ × Data) (result : Result T PageError) (what : ℕ × Data)
+      → OnlyLooks b old new → (b.is_sound new → b.is_open new)
+      → IfOk result (λ t. of t ≡ what) → has_float what.1 ≡ false
+      → (b.is_open new → (history : History) → Stands plans (b.content old) history
+      → IsTold plans history ask what)
+      → ShowsBy of plans ask b old new result
+  shows_by of (Ok t) what reads opened is plain told = record {
+    reads = reads;
+    answers = opened;
+    plain = ap (λ (w : ℕ × Data). has_float w.1) is ∙ plain;
+    told = λ o history st. subst (IsTold plans history ask) (sym is) (told o history st);
+  }
+  shows_by of (Err error) what reads opened is plain told = shows_none_by of error reads
+
+  pub shows_none : (error : PageError) → OnlyLooks b old new
+      → Shows plans ask b old new (Err error)
+  shows_none error reads = shows_none_by page_of error reads
+
+  page_is : (result : Result Value PageError) (body : Data) → IfOk result (λ v. view v ≡ body)
+      → IfOk result (λ v. page_of v ≡ (200, body))
+  page_is (Ok v) body is = ap (λ (d : Data). (200, d)) is
+  page_is (Err e) body is = tt
+
   pub shows_body : (result : Result Value PageError) (body : Data)
       → OnlyLooks b old new → (b.is_sound new → b.is_open new)
       → IfOk result (λ v. view v ≡ body) → has_float body ≡ false
       → (b.is_open new → (history : History) → Stands plans (b.content old) history
-      → IsBody plans history ask body)
+      → IsTold plans history ask (200, body))
       → Shows plans ask b old new result
-  shows_body (Ok v) body reads opened is plain told = record {
-    reads = reads;
-    answers = opened;
-    plain = ap has_float is ∙ plain;
-    told = λ o history st. subst (IsBody plans history ask) (sym is) (told o history st);
-  }
-  shows_body (Err error) body reads opened is plain told = shows_none error reads
+  shows_body result body reads opened is plain told =
+      shows_by page_of result (200, body) reads opened (page_is result body is) plain told
 
 -- ---- what the book returned, in a history that its content stands for
 
@@ -223,7 +246,7 @@ balance_shows plans account b old new (Ok z) (Ok v) reads
     (balance_body account z)
     (looks_once b old new (Ok z)
     reads) reads.answers is (balance_plain account z)
-    (λ o history st. balance_told plans (b.content old) history account z st (found o))
+    (λ o history st. (refl, balance_told plans (b.content old) history account z st (found o)))
 balance_shows plans account b old new (Err e) (Ok v) reads
     found is answers = absurd (true≢false (sym answers))
 balance_shows plans account b old new told (Err e) reads
@@ -245,3 +268,59 @@ next_from c d after to x y next same is at =
     subst (λ o. IsNext octets_cmp c.balances to o) at
     (subst (λ o. IsNext octets_cmp c.balances o x) is
     (subst (λ e. IsNextBalance e after x) same next))
+
+-- ---- a login
+
+maybe_plain : (o : Option ℕ) → has_float (number_or_null o) ≡ false
+maybe_plain None = refl
+maybe_plain (Some n) = refl
+
+pub login_plain : (plan : Plan) (stamp : List ℕ) (heard : Option Heard) (z : ℤ)
+    (rows : List RowFacts) → has_float (login_body plan stamp heard z rows) ≡ false
+unfolding login_body
+login_plain plan stamp heard z rows =
+    rw (maybe_plain (paid_octets plan z), maybe_plain (stations_heard heard rows)) refl
+
+-- the balance that a book returned is that of the account's part
+its_balance : (plans : List Plan) (c : Content) (history : History) (a : List ℕ) (z : ℤ)
+    → Stands plans c history → z ≡ kept_balance c a → z ≡ (part_of plans history a).balance
+its_balance plans c history a z st is = is ∙ kept-balance plans c history st a
+
+pub short_told : (plans : List Plan) (c : Content) (history : History) (asked : Login) (z : ℤ)
+    → Stands plans c history → z ≡ kept_balance c asked.account → is_short asked.plan z ≡ true
+    → IsQueryTold plans history (login asked) (402, error_body (codes "no balance"))
+short_told plans c history asked z st is short =
+    subst (λ b. MatchBool b
+    (◌≡◌ {A = ℕ × Data} (402, error_body (codes "no balance")) (402, error_body (codes "no balance")))
+    ((rows : List RowFacts) × AreRowsIn (part_of plans history asked.account) rows
+    × (◌≡◌ {A = ℕ × Data} (402, error_body (codes "no balance")) (
+      200,
+      login_body asked.plan
+          asked.stamp asked.heard (part_of plans history asked.account).balance rows,
+    ))))
+    (sym short ∙ ap (is_short asked.plan) (its_balance plans c history asked.account z st is)) refl
+
+pub login_told : (plans : List Plan) (c d : Content) (history : History) (asked : Login) (z : ℤ)
+    (rows : List RowFacts) → Stands plans c history → z ≡ kept_balance c asked.account
+    → is_short asked.plan z ≡ false → d ≡ c → (account : List ℕ) → account ≡ asked.account
+    → AreRowsOf d account rows
+    → IsQueryTold plans history (login asked)
+    (200, login_body asked.plan asked.stamp asked.heard z rows)
+login_told plans c d history asked z rows st is enough same account mine are =
+    let told = its_balance plans c history asked.account z st is in
+    let own = subst (λ a. AreRowsOf c a rows) mine (subst (λ e. AreRowsOf e account rows) same are)
+    in
+    subst (λ b. MatchBool b
+    (◌≡◌ {A = ℕ × Data} (200, login_body asked.plan asked.stamp asked.heard z rows)
+    (402, error_body (codes "no balance")))
+    ((rows' : List RowFacts) × AreRowsIn (part_of plans history asked.account) rows'
+    × (◌≡◌ {A = ℕ × Data} (200, login_body asked.plan asked.stamp asked.heard z rows) (
+      200,
+      login_body asked.plan asked.stamp asked.heard (part_of plans history asked.account).balance
+          rows',
+    ))))
+    (sym enough ∙ ap (is_short asked.plan) told) (
+      rows,
+      rows_told plans c history asked.account rows st own,
+      ap (λ y. (200, login_body asked.plan asked.stamp asked.heard y rows)) told,
+    )

@@ -44,9 +44,10 @@ pub me-from-part : MeFromPart
 me-from-part keys plans request moment page account one other effect later octets others asks same x
     y answered also =
     let first = told_page plans one x.0 page account octets effect
-    (one_ask keys request moment x.0 (me page account) x.1 asks) (x.2, x.3) answered in
+    (one_ask keys plans request moment x.0 (me page account) x.1 asks) (x.2, x.3) answered in
     let second = told_page plans other y.0 page account others later
-    (one_ask keys request moment y.0 (me page account) y.1 asks) (y.2, y.3) also in
-    let body = one_body plans (part_of plans other account) account page first.0 second.0
-    (subst (λ p. IsPageBody plans p account page first.0) same first.1) second.1 in
-    first.2 ∙ ap (response_of 200 []) body ∙ sym second.2
+    (one_ask keys plans request moment y.0 (me page account) y.1 asks) (y.2, y.3) also in
+    let body = one_body plans (part_of plans other account) account page first.0.1 second.0.1
+    (subst (λ p. IsPageBody plans p account page first.0.1) same first.1.1) second.1.1 in
+    first.2 ∙ ap (λ (status : ℕ). response_of status [] first.0.1) (first.1.0 ∙ sym second.1.0)
+    ∙ ap (response_of second.0.0 []) body ∙ sym second.2

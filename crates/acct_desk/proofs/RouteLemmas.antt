@@ -8,7 +8,7 @@ use Rattle.std.proofs.lemmas.Bool.Decides.{nat_tests}
 use Rattle.matchit.specs.Rows.{RowsOf, param_token, catch_all_token}
 use Rattle.matchit.specs.Router.{RouteOf}
 use Rattle.acct_desk.specs.declared.routes.Endpoint.{Endpoint}
-use Rattle.acct_desk.specs.Routes.{desk_rows, endpoint_of}
+use Rattle.acct_desk.specs.Routes.{desk_rows, fixed_endpoint}
 use Rattle.matchit.specs.Seek.{own, step, or_else, has_slash, param_step, seek, first}
 
 -- the first row whose pattern is this path
@@ -30,7 +30,7 @@ and_left : (a b : Bool) → (a && b) ≡ true → a ≡ true
 and_left true b h = refl
 and_left false b h = h
 
-and_right : (a b : Bool) → (a && b) ≡ true → b ≡ true
+pub and_right : (a b : Bool) → (a && b) ≡ true → b ≡ true
 and_right true b h = h
 and_right false b h = absurd (cc)
 
@@ -125,7 +125,7 @@ map_cond f true x rest = refl
 map_cond f false x rest = refl
 
 pub endpoint_of_first : (path : List ℕ)
-    → option_map (λ r. r.value) (first desk_rows path) ≡ endpoint_of path
+    → option_map (λ r. r.value) (first desk_rows path) ≡ fixed_endpoint path
 endpoint_of_first path =
     ap (option_map (λ (r : RouteOf Endpoint). r.value)) (seek_literal path desk_rows refl)
     ∙ simp map_cond

@@ -1,6 +1,6 @@
 -- What the desk answers, and what that does.
 use Rattle.std.specs.Prelude.{◌≡◌, ◌≢◌, ◌⊎◌, ℕ, ℤ, List, [], Option, None, Some, Vec, Result}
-use Rattle.std.specs.Prelude.{Ok, Err, IfOk, if◌then◌else◌}
+use Rattle.std.specs.Prelude.{Ok, Err, IfOk, MatchBool, codes, if◌then◌else◌}
 use Rattle.std.specs.Global.{Global}
 use Rattle.serde_json.specs.Data.{Data}
 use Rattle.acct_model.specs.declared.plan.Plan.{Plan}
@@ -18,10 +18,12 @@ use Rattle.acct_book.specs.Row.{RowFacts}
 use Rattle.acct_book.specs.Walk.{AreAllPast}
 use Rattle.acct_desk.specs.declared.asking.Page.{Page}
 use Rattle.acct_desk.specs.declared.asking.Page.TheVariants.{Balance, Sessions, TopUps}
-use Rattle.acct_desk.specs.Asks.{Ask, refused, me, overruns, credit}
+use Rattle.acct_desk.specs.Logins.{Login}
+use Rattle.acct_desk.specs.Asks.{Ask, refused, me, overruns, look, credit, Query, login}
 use Rattle.acct_desk_pages.specs.Bodies.{balance_body, sessions_body, topups_body, overruns_body}
+use Rattle.acct_desk_pages.specs.Logins.{is_short, login_body}
 use Rattle.acct_desk.specs.Responses.{refusal_response}
-use Rattle.acct_desk_pages.specs.Responses.{response_of, unavailable_response}
+use Rattle.acct_desk_pages.specs.Responses.{response_of, error_body, unavailable_response}
 use Rattle.acct_desk.specs.Responses.{recorded_response}
 
 -- ---- what the desk returns
@@ -44,19 +46,32 @@ abbrev pub AreBalances : List Plan → History → List (List ℕ × ℤ) → Ty
 AreBalances plans history accounts =
     AreAllPast octets_cmp (known_balance plans history) None accounts
 
--- the body of the response over a history, by what the request asks for
-abbrev pub IsBody : List Plan → History → Ask → Data → Type 0
-IsBody plans history (refused refusal) body = ⊥
-IsBody plans history (me page account) body =
-    IsPageBody plans (part_of plans history account) account page body
-IsBody plans history overruns body = (accounts : List (List ℕ × ℤ))
-    × AreBalances plans history accounts × (body ≡ overruns_body accounts)
-IsBody plans history (credit topup) body = ⊥
+-- What is said at a login: that the balance is too low for a block, else how much may be used.
+abbrev pub IsLoginTold : Part → Login → ℕ × Data → Type 0
+IsLoginTold part asked told = MatchBool (is_short asked.plan part.balance)
+    (told ≡ (402, error_body (codes "no balance")))
+    ((rows : List RowFacts) × AreRowsIn part rows
+    × (told ≡ (200, login_body asked.plan asked.stamp asked.heard part.balance rows)))
 
--- the response with that body
+-- what a question of the site's front is told
+abbrev pub IsQueryTold : List Plan → History → Query → ℕ × Data → Type 0
+IsQueryTold plans history (login asked) told =
+    IsLoginTold (part_of plans history asked.account) asked told
+
+-- the status and the body of the response over a history, by what the request asks for
+abbrev pub IsTold : List Plan → History → Ask → ℕ × Data → Type 0
+IsTold plans history (refused refusal) told = ⊥
+IsTold plans history (me page account) told = (told.0 ≡ 200)
+    × IsPageBody plans (part_of plans history account) account page told.1
+IsTold plans history overruns told = (told.0 ≡ 200) × ((accounts : List (List ℕ × ℤ))
+    × AreBalances plans history accounts × (told.1 ≡ overruns_body accounts))
+IsTold plans history (look query) told = IsQueryTold plans history query told
+IsTold plans history (credit topup) told = ⊥
+
+-- the response with that status and that body
 abbrev pub IsResponseOf : List Plan → History → Ask → List ℕ → Type 0
-IsResponseOf plans history ask octets = (body : Data) × IsBody plans history ask body
-    × (octets ≡ response_of 200 [] body)
+IsResponseOf plans history ask octets = (told : ℕ × Data) × IsTold plans history ask told
+    × (octets ≡ response_of told.0 [] told.1)
 
 -- ---- what is answered, and what that does
 
@@ -69,6 +84,8 @@ AnswersAsk (me page account) octets effect =
     (effect ≡ looked) ⊎ ((octets ≡ unavailable_response) × (effect ≡ passed))
 AnswersAsk overruns octets effect =
     (effect ≡ looked) ⊎ ((octets ≡ unavailable_response) × (effect ≡ passed))
+AnswersAsk (look query) octets effect =
+    (effect ≡ looked) ⊎ ((octets ≡ unavailable_response) × (effect ≡ passed))
 AnswersAsk (credit topup) octets effect =
     (recorded : Result Recorded RecordError)
     × (octets ≡ recorded_response recorded)
@@ -78,6 +95,7 @@ AnswersAsk (credit topup) octets effect =
 abbrev pub Mutes : Ask → Effect → Type 0
 Mutes (me page account) effect = (effect ≡ unasked) ⊎ (effect ≡ passed)
 Mutes overruns effect = (effect ≡ unasked) ⊎ (effect ≡ passed)
+Mutes (look query) effect = (effect ≡ unasked) ⊎ (effect ≡ passed)
 Mutes ask effect = effect ≡ unasked
 
 -- what is answered: a response, or that there was no memory for one
@@ -96,6 +114,7 @@ IsOfBalance (me Balance account) = Unit {0}
 IsOfBalance (me Sessions account) = ⊥
 IsOfBalance (me TopUps account) = ⊥
 IsOfBalance overruns = ⊥
+IsOfBalance (look query) = ⊥
 IsOfBalance (credit topup) = ⊥
 
 -- What becomes of a request that asks this, over any book.

@@ -1,5 +1,5 @@
 -- What is wrong with keys, and how keys are kept.
-use Rattle.std.specs.Prelude.{◌≡◌, ℕ, not, Option, None, Some, List, Vec}
+use Rattle.std.specs.Prelude.{◌≡◌, ℕ, Bool, not, Option, None, Some, List, Vec}
 use Rattle.std.specs.Prelude.{if◌then◌else◌}
 use Rattle.std.specs.Global.{Global}
 use Rattle.std.specs.List.{list_any, position_from}
@@ -13,7 +13,7 @@ use Rattle.acct_desk.specs.declared.routes.Endpoint.{Endpoint}
 use Rattle.acct_desk.specs.declared.keys.DeskKey.{DeskKey}
 use Rattle.acct_desk.specs.declared.keys.KeysError.{KeysError}
 use Rattle.acct_desk.specs.declared.keys.KeysError.TheVariants.{BadToken, TwiceKeyed, Memory}
-use Rattle.acct_desk.specs.Keys.{is_token_text, has_token}
+use Rattle.acct_desk.specs.Keys.{is_token_text, has_token, is_for_logins}
 use Rattle.acct_desk.specs.Routes.{desk_rows}
 
 -- what is wrong with a key that follows earlier ones
@@ -42,10 +42,11 @@ abbrev pub ArePlaces : BTreeMap (Vec ℕ Global) ℕ → List DeskKey → Type 0
 ArePlaces places keys = (token : List ℕ)
     → place_at places token ≡ position_from (has_token token) 0 keys
 
--- what the keys of a desk keep: no fault, the place of each token, and the router of the desk's
--- paths
+-- what the keys of a desk keep: no fault, the place of each token, the router of the desk's paths,
+-- and whether a key is for logins
 pub record AreKeys (keys : List DeskKey) (places : BTreeMap (Vec ℕ Global) ℕ)
-    (router : RowsOf (RouteOf Endpoint)) : Type 0 where
+    (router : RowsOf (RouteOf Endpoint)) (for_logins : Bool) : Type 0 where
   pub faultless : keys_fault keys ≡ None
   pub placed : ArePlaces places keys
   pub routed : router ≡ desk_rows
+  pub told : for_logins ≡ list_any is_for_logins keys

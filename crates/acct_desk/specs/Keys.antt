@@ -1,9 +1,20 @@
 -- The keys of the desk.
-use Rattle.std.specs.Prelude.{ℕ, nat_le, Bool, ◌&&◌, ◌||◌, ◌==◌, List, length, bytes_eq, Option}
-use Rattle.std.specs.Prelude.{option_map}
-use Rattle.std.specs.List.{list_all, find}
+use Rattle.std.specs.Prelude.{ℕ, nat_le, Bool, true, false, ◌&&◌, ◌||◌, ◌==◌, List, length}
+use Rattle.std.specs.Prelude.{bytes_eq, Option, None, option_map, is_some}
+use Rattle.std.specs.List.{list_all, list_any, find}
 use Rattle.acct_desk.specs.declared.keys.Role.{Role}
+use Rattle.acct_desk.specs.declared.keys.Role.TheVariants.{Account, Cashier, Logins}
 use Rattle.acct_desk.specs.declared.keys.DeskKey.{DeskKey}
+use Rattle.acct_desk.specs.declared.keys.Signing.{Signing}
+
+-- the keys of a desk, and what it signs with, if it signs
+pub record KeysFacts : Type 0 where
+  pub list : List DeskKey
+  pub signing : Option Signing
+
+-- keys of a desk that signs nothing
+abbrev pub bare : List DeskKey → KeysFacts
+bare list = record { list = list; signing = None }
 
 -- A to Z, a to z, 0 to 9 or `-`
 abbrev pub is_token_octet : ℕ → Bool
@@ -22,3 +33,16 @@ has_token token key = bytes_eq token key.token
 -- what the key with this token lets its bearer do, if there is one
 abbrev pub role_at : List ℕ → List DeskKey → Option Role
 role_at token keys = option_map (λ key. key.role) (find (has_token token) keys)
+
+-- the bearer may ask about logins
+abbrev pub lets_logins : Role → Bool
+lets_logins (Account account) = false
+lets_logins Cashier = false
+lets_logins Logins = true
+
+abbrev pub is_for_logins : DeskKey → Bool
+is_for_logins key = lets_logins key.role
+
+-- The desk tells of logins: it signs, and some key may ask about them.
+abbrev pub serves_logins : KeysFacts → Bool
+serves_logins keys = is_some keys.signing && list_any is_for_logins keys.list

@@ -1,11 +1,14 @@
-pub mod Routes
 pub mod Keys
+pub mod Paths
+pub mod Routes
 pub mod KeyFaults
 pub mod Request
 pub mod Reading
 pub mod TopUpBodies
+pub mod Logins
 pub mod Asks
 pub mod Responses
 pub mod Handling
 pub mod Laws
+pub mod LoginLaws
 pub mod inner

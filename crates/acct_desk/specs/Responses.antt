@@ -9,7 +9,7 @@ use Rattle.acct_desk.specs.declared.routes.Endpoint.{Endpoint}
 use Rattle.acct_desk.specs.declared.asking.Refusal.{Refusal}
 use Rattle.acct_desk.specs.declared.asking.Refusal.TheVariants.{BadRequest, TooLarge, NoPath}
 use Rattle.acct_desk.specs.declared.asking.Refusal.TheVariants.{WrongMethod, NoKey, NotAllowed}
-use Rattle.acct_desk.specs.declared.asking.Refusal.TheVariants.{BadTopUp}
+use Rattle.acct_desk.specs.declared.asking.Refusal.TheVariants.{BadTopUp, BadLogin}
 use Rattle.acct_desk.specs.Routes.{method_of}
 use Rattle.acct_desk_pages.specs.Responses.{error_response, result_response, unavailable_response}
 
@@ -31,6 +31,7 @@ refusal_response (WrongMethod endpoint) =
 refusal_response NoKey = error_response 401 challenge_line (codes "no key")
 refusal_response NotAllowed = error_response 403 [] (codes "not allowed")
 refusal_response BadTopUp = error_response 422 [] (codes "bad topup")
+refusal_response BadLogin = error_response 422 [] (codes "bad login")
 
 -- the response to a top-up that was added
 unfoldable pub added_response : List ℕ

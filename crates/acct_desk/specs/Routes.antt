@@ -1,20 +1,33 @@
 -- The paths of the desk.
 use Rattle.std.specs.Prelude.{ℕ, List, [], ◌∷◌, Option, Some, None, codes, bytes_eq, if◌then◌else◌}
+use Rattle.std.specs.Prelude.{◌&&◌, is_some}
+use Rattle.std.specs.Option.{option_or}
 use Rattle.matchit.specs.Rows.{RowsOf}
 use Rattle.matchit.specs.Router.{RouteOf}
 use Rattle.acct_desk.specs.declared.routes.Endpoint.{Endpoint}
 use Rattle.acct_desk.specs.declared.routes.Endpoint.TheVariants.{Balance, Sessions, MyTopUps}
-use Rattle.acct_desk.specs.declared.routes.Endpoint.TheVariants.{TopUps, Overruns}
+use Rattle.acct_desk.specs.declared.routes.Endpoint.TheVariants.{TopUps, Overruns, Logins}
+use Rattle.acct_desk.specs.Keys.{KeysFacts, serves_logins}
+use Rattle.acct_desk.specs.Paths.{login_path}
 
--- the endpoint at a path
-abbrev pub endpoint_of : List ℕ → Option Endpoint
-endpoint_of path =
+-- the endpoint at a path that is always there
+abbrev pub fixed_endpoint : List ℕ → Option Endpoint
+fixed_endpoint path =
     if bytes_eq (codes "/me/balance") path then Some Balance
     else if bytes_eq (codes "/me/sessions") path then Some Sessions
     else if bytes_eq (codes "/me/topups") path then Some MyTopUps
     else if bytes_eq (codes "/overruns") path then Some Overruns
     else if bytes_eq (codes "/topups") path then Some TopUps
     else None
+
+-- the endpoint of a login, at a desk that tells of logins
+abbrev pub login_endpoint : KeysFacts → List ℕ → Option Endpoint
+login_endpoint keys path =
+    if serves_logins keys && is_some (login_path path) then Some Logins else None
+
+-- the endpoint at a path of a desk with these keys
+abbrev pub endpoint_of : KeysFacts → List ℕ → Option Endpoint
+endpoint_of keys path = option_or (fixed_endpoint path) (login_endpoint keys path)
 
 -- the method of an endpoint
 abbrev pub method_of : Endpoint → List ℕ
@@ -23,6 +36,7 @@ method_of Sessions = codes "GET"
 method_of MyTopUps = codes "GET"
 method_of TopUps = codes "POST"
 method_of Overruns = codes "GET"
+method_of Logins = codes "GET"
 
 -- a route without parameters
 abbrev pub literal_row : List ℕ → Endpoint → List ℕ × RouteOf Endpoint

@@ -1,6 +1,8 @@
 -- What private functions and proofs need, and no public contract reaches.
 pub mod AskView
+pub mod Cut
 pub mod Head
+pub mod LoginView
 pub mod Pages
 pub mod Reading
 pub mod Request

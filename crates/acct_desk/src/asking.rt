@@ -3,18 +3,20 @@ ghost use Rattle.std.specs.Prelude.{◌≡◌, ◌≤◌, ◌<◌, ◌^◌, IfOk
 ghost use Rattle.std.specs.Option.{option_copied};
 ghost use Rattle.httparse.specs.Spans.{IsHeaderWithin, IsWithin, span_bytes, header_bytes};
 ghost use Rattle.acct_desk.specs.Request.{reach_of};
-ghost use Rattle.acct_desk.specs.Routes.{endpoint_of};
 ghost use Rattle.acct_desk.specs.Asks.{Ask as Asked, json_of, ask_of_json, ask_of_role};
 ghost use Rattle.acct_desk.specs.Asks.{ask_of_endpoint, path_of, role_of_fields, ask_of_fields};
-ghost use Rattle.acct_desk.specs.Asks.{ask_of_reach, refused, Asks};
+ghost use Rattle.acct_desk.specs.Asks.{ask_of_reach, refused, Asks, ask_of_path};
+ghost use Rattle.acct_desk.specs.Paths as paths;
 ghost use Rattle.acct_desk.specs.inner.AskView.{ask_view};
 
 use crate::framing::{HEAD_LIMIT, Reach, front_of, reach_by_fields};
 use crate::head::{FIELD_LIMIT, head_of, values_named};
 use crate::keys::{Keys, Role};
+use crate::login::{Login, login_asked};
+use crate::login_path::login_path;
 use crate::routes::{Endpoint, method_text};
 use crate::top_up_body::{BodyError, topup_of_body};
-use acct_model::{NoMemory, TopUp};
+use acct_model::{NoMemory, Plans, TopUp};
 use httparse::spans::{EMPTY_HEADER_SPAN, HeaderSpan, RequestSpans};
 use std::alloc::Global;
 
@@ -28,6 +30,7 @@ pub(crate) enum Refusal {
     NoKey,
     NotAllowed,
     BadTopUp,
+    BadLogin,
 }
 
 // A page that an account may read about itself.
@@ -47,6 +50,8 @@ pub(crate) enum Ask<'k> {
     Me(Page, &'k [u8]),
     // The overdrawn accounts.
     Overruns,
+    // What a login may use.
+    Login(Login<'k>),
     // To credit a voucher.
     Credit(TopUp),
 }
@@ -55,12 +60,13 @@ pub(crate) enum Ask<'k> {
 pub(crate) fn ask_of_octets<'k>(
     alloc: Global,
     keys: &'k Keys,
+    plans: &'k Plans,
     request: &[u8],
     moment: u64,
 ) -> Result<Ask<'k>, NoMemory>
     requires { moment < 2 ^ 53 }
-    ensures asks { IfOk result (λ ask. Asks keys.now request.now moment (ask_view ask)) }
-    ensures some { (ask : Asked) × Asks keys.now request.now moment ask }
+    ensures asks { IfOk result (λ ask. Asks keys.now plans.now request.now moment (ask_view ask)) }
+    ensures some { (ask : Asked) × Asks keys.now plans.now request.now moment ask }
 {
     let front = front_of(request);
     let mut headers = [EMPTY_HEADER_SPAN; FIELD_LIMIT];
@@ -70,6 +76,7 @@ pub(crate) fn ask_of_octets<'k>(
     ask_of_spans(
         alloc,
         keys,
+        plans,
         request,
         front,
         spans,
@@ -94,6 +101,7 @@ fn refusal_of_length(there: usize) -> Refusal
 fn ask_of_spans<'k>(
     alloc: Global,
     keys: &'k Keys,
+    plans: &'k Plans,
     request: &[u8],
     front: &[u8],
     spans: RequestSpans,
@@ -106,7 +114,7 @@ fn ask_of_spans<'k>(
     requires target { IsUtf8 (span_bytes front.now spans.path) }
     requires short { spans.len ≤ 8192 }
     requires bounded { moment < 2 ^ 53 }
-    ensures { IfOk result (λ ask. ask_view ask ≡ ask_of_fields keys.now request.now moment
+    ensures { IfOk result (λ ask. ask_view ask ≡ ask_of_fields keys.now plans.now request.now moment
         spans.len (span_bytes front.now spans.path) (span_bytes front.now spans.method)
         (map (header_bytes front.now) headers.now)) }
 {
@@ -114,26 +122,39 @@ fn ask_of_spans<'k>(
         Reach::More | Reach::Bad => Ok(Ask::Refused(Refusal::BadRequest)),
         Reach::TooLarge => Ok(Ask::Refused(Refusal::TooLarge)),
         Reach::Whole(end) => {
-            let endpoint = endpoint_of_target(keys, spans.path.of(front));
+            let path = path_of_target(spans.path.of(front));
+            let endpoint = keys.endpoint_at(path);
             let role = role_of_fields(keys, front, headers);
             let body = &request[spans.len..end];
-            ask_of_parts(alloc, endpoint, spans.method.of(front), role, body, moment)
+            let what = What {
+                path: path.as_bytes(),
+                body,
+                moment,
+            };
+            ask_of_parts(
+                alloc,
+                keys,
+                plans,
+                endpoint,
+                spans.method.of(front),
+                role,
+                what,
+            )
         }
     }
 }
 
-// The endpoint at the path of a target.
-fn endpoint_of_target(keys: &Keys, target: &[u8]) -> Option<Endpoint>
+// The path of a target.
+fn path_of_target(target: &[u8]) -> &str
     requires { IsUtf8 target.now }
-    ensures { result ≡ endpoint_of (path_of target.now) }
+    ensures { result.now ≡ path_of target.now }
 {
     match str::from_utf8(target) {
-        Ok(target) => keys.endpoint_at(path_part(target)),
+        Ok(target) => path_part(target),
         Err(_) => unreachable!(),
     }
 }
 
-// The path of a target.
 fn path_part(target: &str) -> &str
     ensures { result.now ≡ path_of target.now }
 {
@@ -146,25 +167,35 @@ fn path_part(target: &str) -> &str
 // The role of the key in the first Desk-Key field.
 fn role_of_fields<'k>(keys: &'k Keys, front: &[u8], headers: &[HeaderSpan]) -> Option<&'k Role>
     requires { All (IsHeaderWithin (length front.now)) headers.now }
-    ensures { option_copied result ≡ role_of_fields keys.now
+    ensures { option_copied result ≡ role_of_fields keys.now.list
         (map (header_bytes front.now) headers.now) }
 {
     let token = values_named(front, headers, "desk-key").first?;
     keys.role_of(token)
 }
 
+// What a request says beside its method and its key.
+#[derive(Clone, Copy)]
+struct What<'r> {
+    path: &'r [u8],
+    body: &'r [u8],
+    moment: u64,
+}
+
 // Returns what a request asks for, by its parts.
 fn ask_of_parts<'k>(
     alloc: Global,
+    keys: &'k Keys,
+    plans: &'k Plans,
     endpoint: Option<Endpoint>,
     method: &[u8],
     role: Option<&'k Role>,
-    body: &[u8],
-    moment: u64,
+    what: What<'_>,
 ) -> Result<Ask<'k>, NoMemory>
-    requires { moment < 2 ^ 53 }
+    requires { what.moment < 2 ^ 53 }
     ensures { IfOk result (λ ask. ask_view ask
-        ≡ ask_of_endpoint endpoint method.now (option_copied role.entry) body.now moment) }
+        ≡ ask_of_endpoint keys.now plans.now endpoint method.now (option_copied role.entry)
+        what.entry.path.now what.entry.body.now what.entry.moment) }
 {
     let Some(endpoint) = endpoint else {
         return Ok(Ask::Refused(Refusal::NoPath));
@@ -174,20 +205,23 @@ fn ask_of_parts<'k>(
     }
     match role {
         None => Ok(Ask::Refused(Refusal::NoKey)),
-        Some(role) => ask_of_role(alloc, endpoint, role, body, moment),
+        Some(role) => ask_of_role(alloc, keys, plans, endpoint, role, what),
     }
 }
 
 // Returns what a request with this role asks for.
 fn ask_of_role<'k>(
     alloc: Global,
+    keys: &'k Keys,
+    plans: &'k Plans,
     endpoint: Endpoint,
     role: &'k Role,
-    body: &[u8],
-    moment: u64,
+    what: What<'_>,
 ) -> Result<Ask<'k>, NoMemory>
-    requires { moment < 2 ^ 53 }
-    ensures { IfOk result (λ ask. ask_view ask ≡ ask_of_role endpoint role.now body.now moment) }
+    requires { what.moment < 2 ^ 53 }
+    ensures { IfOk result (λ ask. ask_view ask
+        ≡ ask_of_role keys.now plans.now endpoint role.now
+        what.entry.path.now what.entry.body.now what.entry.moment) }
 {
     match (endpoint, role) {
         (Endpoint::Balance, Role::Account(account)) => Ok(Ask::Me(
@@ -203,8 +237,33 @@ fn ask_of_role<'k>(
             account.as_slice(),
         )),
         (Endpoint::Overruns, Role::Cashier) => Ok(Ask::Overruns),
-        (Endpoint::TopUps, Role::Cashier) => ask_of_post(alloc, body, moment),
+        (Endpoint::TopUps, Role::Cashier) => ask_of_post(alloc, what.body, what.moment),
+        (Endpoint::Logins, Role::Logins) => ask_of_path(alloc, keys, plans, what.path, what.moment),
         _ => Ok(Ask::Refused(Refusal::NotAllowed)),
+    }
+}
+
+// Returns what a login's path asks for.
+fn ask_of_path<'k>(
+    alloc: Global,
+    keys: &Keys,
+    plans: &'k Plans,
+    path: &[u8],
+    moment: u64,
+) -> Result<Ask<'k>, NoMemory>
+    ensures { IfOk result (λ ask. ask_view ask ≡ ask_of_path keys.now.signing plans.now moment
+        (paths.login_path path.now)) }
+{
+    let Some(signing) = keys.signing() else {
+        return Ok(Ask::Refused(Refusal::NoPath));
+    };
+    let Some(path) = login_path(path) else {
+        return Ok(Ask::Refused(Refusal::NoPath));
+    };
+    match login_asked(alloc, &signing.secrets.secret, plans, path, moment) {
+        Ok(Some(login)) => Ok(Ask::Login(login)),
+        Ok(None) => Ok(Ask::Refused(Refusal::BadLogin)),
+        Err(_) => Err(NoMemory),
     }
 }
 

@@ -1,14 +1,18 @@
 //! The desk's answers.
 ghost use Rattle.std.specs.Prelude.{◌≡◌, ◌<◌, ◌^◌, List, IfOk};
 ghost use Rattle.acct_model.specs.declared.plan.Plan.{Plan};
-ghost use Rattle.acct_desk.specs.Asks.{Ask as Asked, Asks, me, overruns, credit};
+ghost use Rattle.acct_desk.specs.Asks.{Ask as Asked, Asks, me, overruns, look, login, credit};
 ghost use Rattle.acct_desk.specs.Handling.{Handles};
 ghost use Rattle.acct_desk.specs.Responses.{refusal_response, recorded_response};
+ghost use Rattle.acct_desk.specs.inner.LoginView.{login_view};
 ghost use Rattle.acct_desk.specs.inner.TopUpAnswers.{AreAnswers};
 
 use crate::asking::{Ask, Page, Refusal, ask_of_octets};
 use crate::keys::Keys;
-use crate::pages::{balance_page, overruns_page, page_octets, sessions_page, topups_page};
+use crate::login::Login;
+use crate::pages::{
+    balance_page, login_page, overruns_page, page_octets, sessions_page, told_octets, topups_page,
+};
 use crate::refusals::refusal_octets;
 use acct_book::{Book, RecordError, Recorded, record};
 use acct_desk_pages::json_response::{error_octets, result_octets, unavailable_octets};
@@ -36,11 +40,11 @@ pub fn handle<B: Book>(
     moment: u64,
 ) -> Result<Vec<u8>, NoMemory>
     requires { moment < 2 ^ 53 }
-    ensures { (ask : Asked) × Asks keys.now request.now moment ask
+    ensures { (ask : Asked) × Asks keys.now plans.now request.now moment ask
         × Handles B.Book plans.now ask book.old book.new
         result }
 {
-    let ask = match ask_of_octets(alloc, keys, request, moment) {
+    let ask = match ask_of_octets(alloc, keys, plans, request, moment) {
         Ok(ask) => ask,
         Err(_) => return Err(NoMemory),
     };
@@ -48,6 +52,7 @@ pub fn handle<B: Book>(
         Ask::Refused(refusal) => refuse(alloc, refusal),
         Ask::Me(page, account) => tell_page(alloc, plans, book, page, account),
         Ask::Overruns => tell_overruns(alloc, book),
+        Ask::Login(login) => tell_login(alloc, book, &login),
         Ask::Credit(topup) => take_topup(alloc, plans, book, topup),
     }
 }
@@ -84,6 +89,14 @@ fn tell_overruns<B: Book>(alloc: Global, book: &mut B) -> Result<Vec<u8>, NoMemo
     ensures { (plans : List Plan) → Handles B.Book plans overruns book.old book.new result }
 {
     page_octets(alloc, overruns_page(alloc, book))
+}
+
+// Returns what a login may use.
+fn tell_login<B: Book>(alloc: Global, book: &mut B, asked: &Login<'_>) -> Result<Vec<u8>, NoMemory>
+    ensures { (plans : List Plan)
+        → Handles B.Book plans (look (login (login_view asked.now))) book.old book.new result }
+{
+    told_octets(alloc, login_page(alloc, book, asked))
 }
 
 // Records a top-up. All its possible responses are made before.

@@ -3,12 +3,14 @@ ghost use Rattle.std.specs.Prelude.{◌≡◌, ◌++◌, [], ◌∷◌, None, fa
 ghost use Rattle.std.specs.List.{list_all, list_any};
 ghost use Rattle.std.specs.Option.{option_copied};
 ghost use Rattle.acct_model.specs.Faults.{fault_or};
-ghost use Rattle.acct_desk.specs.Keys.{is_token_octet, is_token_text, has_token, role_at};
+ghost use Rattle.acct_desk.specs.Keys.{is_token_octet, is_token_text, has_token, role_at, bare};
+ghost use Rattle.acct_desk.specs.Keys.{lets_logins, serves_logins};
 ghost use Rattle.acct_desk.specs.KeyFaults.{key_fault, keys_fault, IsKeysError, ArePlaces};
-ghost use Rattle.acct_desk.specs.Routes.{endpoint_of};
+ghost use Rattle.acct_desk.specs.Routes.{endpoint_of, login_endpoint};
 
+use crate::login_path::login_path;
 use crate::routes::{Endpoint, endpoint_at, router};
-use acct_model::{Octets, Text};
+use acct_model::{Octets, StampSecrets, Text};
 use matchit::{InsertError, Router};
 use std::alloc::{AllocError, Global};
 use std::collections::BTreeMap;
@@ -26,6 +28,8 @@ pub enum Role {
     Account(Octets),
     /// Credit vouchers, and list the overdrawn accounts.
     Cashier,
+    /// Ask what logins may use.
+    Logins,
 }
 
 impl Drop for Role {
@@ -33,6 +37,7 @@ impl Drop for Role {
         match self {
             Role::Account(_) => {}
             Role::Cashier => {}
+            Role::Logins => {}
         }
     }
 }
@@ -48,6 +53,18 @@ pub struct DeskKey {
 impl Drop for DeskKey {
     fn drop(self) {
         let DeskKey { token: _, role: _ } = self;
+    }
+}
+
+/// What a desk signs with.
+pub struct Signing {
+    /// The secrets that sign stamps.
+    pub secrets: StampSecrets,
+}
+
+impl Drop for Signing {
+    fn drop(self) {
+        let Signing { secrets: _ } = self;
     }
 }
 
@@ -76,11 +93,15 @@ impl From<AllocError> for KeysError {
     }
 }
 
-/// Keys with distinct tokens, and the desk's paths. Every request is looked up in them.
+/// Keys with distinct tokens, what the desk signs with, and its paths. Every request is looked up
+/// in them.
 pub struct Keys {
     list: Vec<DeskKey>,
     // The place in the list of each token.
     places: BTreeMap<Vec<u8>, usize>,
+    // Whether one of them is for logins.
+    for_logins: bool,
+    signing: Option<Signing>,
     router: Router<Endpoint>,
 }
 
@@ -89,22 +110,22 @@ impl Drop for Keys {
         let Keys {
             list: _,
             places: _,
+            for_logins: _,
+            signing: _,
             router: _,
         } = self;
     }
 }
 
 impl Model for Keys {
-    ghost use Rattle.std.specs.Prelude.{List};
-    ghost use Rattle.acct_desk.specs.declared.keys.DeskKey.{DeskKey};
-
-    ghost Value = { List DeskKey };
-
+    ghost use Rattle.acct_desk.specs.Keys.{KeysFacts};
     ghost use Rattle.acct_desk.specs.KeyFaults.{AreKeys};
 
-    ghost view = { λ k. k.list.items };
+    ghost Value = { KeysFacts };
 
-    ghost invariant = { λ k. AreKeys k.list.items k.places k.router };
+    ghost view = { λ k. record { list = k.list.items; signing = k.signing } };
+
+    ghost invariant = { λ k. AreKeys k.list.items k.places k.router k.for_logins };
 }
 
 impl Keys {
@@ -114,13 +135,15 @@ impl Keys {
     ///
     /// Only `Memory`.
     pub fn none(alloc: Global) -> Result<Keys, KeysError>
-        ensures none { IfOk result (λ keys. keys ≡ []) }
+        ensures none { IfOk result (λ keys. keys ≡ bare []) }
         ensures refused { IfErr result (λ error. error ≡ KeysError.Memory) }
     {
         match router(alloc) {
             Ok(router) => Ok(Keys {
                 list: Vec::new(alloc),
                 places: BTreeMap::new(alloc),
+                for_logins: false,
+                signing: None,
                 router,
             }),
             Err(_) => Err(KeysError::Memory),
@@ -134,7 +157,7 @@ impl Keys {
     /// The first fault. Each key in its turn is tested for `BadToken`, and then for `TwiceKeyed`.
     /// `Memory` may be returned instead of either.
     pub fn new(alloc: Global, list: Vec<DeskKey>) -> Result<Keys, KeysError>
-        ensures kept { IfOk result (λ keys. keys ≡ list.items) }
+        ensures kept { IfOk result (λ keys. keys ≡ bare list.items) }
         ensures faultless { OnOk result (keys_fault list.items ≡ None) }
         ensures refused { IfErr result (IsKeysError (keys_fault list.items)) }
     {
@@ -153,28 +176,51 @@ impl Keys {
     /// The first of `BadToken` and `TwiceKeyed` that holds, and `Memory` only if neither does. An
     /// error leaves the keys as they were.
     pub fn push(&mut self, alloc: Global, key: DeskKey) -> Result<(), KeysError>
-        ensures pushed { OnOk result (self.new ≡ self.old ++ key ∷ []) }
-        ensures faultless { OnOk result (key_fault self.old key ≡ None) }
+        ensures pushed { OnOk result (self.new ≡ record self.old { list = self.old.list ++ key ∷ [] }) }
+        ensures faultless { OnOk result (key_fault self.old.list key ≡ None) }
         ensures refused { IfErr result (λ error.
-            error ≡ fault_or KeysError.Memory (key_fault self.old key)) }
+            error ≡ fault_or KeysError.Memory (key_fault self.old.list key)) }
         ensures unchanged { OnErr result (self.new ≡ self.old) }
     {
         if let Some(fault) = self.fault_after(&key) {
             return Err(fault);
         }
-        place(alloc, &mut self.list, &mut self.places, key)
+        let is_for_logins = lets_logins(&key.role);
+        place(alloc, &mut self.list, &mut self.places, key)?;
+        self.for_logins = self.for_logins || is_for_logins;
+        Ok(())
+    }
+
+    /// The same keys, of a desk that signs with this, or signs nothing.
+    pub fn with_signing(self, signing: Option<Signing>) -> Keys
+        ensures { result ≡ record self { signing = signing } }
+    {
+        let Keys {
+            list,
+            places,
+            for_logins,
+            signing: _,
+            router,
+        } = self;
+        Keys {
+            list,
+            places,
+            for_logins,
+            signing,
+            router,
+        }
     }
 
     /// The keys in the order in which they were given.
     pub fn list(&self) -> &[DeskKey]
-        ensures { result.now ≡ self.now }
+        ensures { result.now ≡ self.now.list }
     {
         &self.list
     }
 
     // What is wrong with a key that comes after these.
     fn fault_after(&self, key: &DeskKey) -> Option<KeysError>
-        ensures { result ≡ key_fault self.now key.now }
+        ensures { result ≡ key_fault self.now.list key.now }
     {
         let token = key.token.as_str();
         if !is_token(token) {
@@ -189,7 +235,7 @@ impl Keys {
     // The role of the key that has a token. Its cost grows with the logarithm of the number of
     // keys.
     pub(crate) fn role_of(&self, token: &[u8]) -> Option<&Role>
-        ensures { option_copied result ≡ role_at token.now self.now }
+        ensures { option_copied result ≡ role_at token.now self.now.list }
     {
         match self.places.get(token) {
             Some(place) => Some(&self.list[*place].role),
@@ -199,10 +245,45 @@ impl Keys {
 
     // The endpoint at a path.
     pub(crate) fn endpoint_at(&self, path: &str) -> Option<Endpoint>
-        ensures { result ≡ endpoint_of path.now }
+        ensures { result ≡ endpoint_of self.now path.now }
     {
-        endpoint_at(&self.router, path)
+        match endpoint_at(&self.router, path) {
+            Some(endpoint) => Some(endpoint),
+            None => self.login_endpoint(path),
+        }
     }
+
+    // The endpoint of a login, at a desk that tells of logins.
+    fn login_endpoint(&self, path: &str) -> Option<Endpoint>
+        ensures { result ≡ login_endpoint self.now path.now }
+    {
+        if self.serves_logins() && login_path(path.as_bytes()).is_some() {
+            Some(Endpoint::Logins)
+        } else {
+            None
+        }
+    }
+
+    // Whether the desk tells of logins.
+    fn serves_logins(&self) -> bool
+        ensures { result ≡ serves_logins self.now }
+    {
+        self.signing.is_some() && self.for_logins
+    }
+
+    // What the desk signs with, if it signs.
+    pub(crate) fn signing(&self) -> Option<&Signing>
+        ensures { option_copied result ≡ self.now.signing }
+    {
+        self.signing.as_ref()
+    }
+}
+
+// Whether a bearer may ask about logins.
+fn lets_logins(role: &Role) -> bool
+    ensures { result ≡ lets_logins role.now }
+{
+    matches!(role, Role::Logins)
 }
 
 // Adds a key with a new token at the end of a list, and the token's place to the other places. If

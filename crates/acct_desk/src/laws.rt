@@ -1,5 +1,6 @@
 //! Laws of the desk, as functions without effect.
 ghost use Rattle.acct_desk.specs.Laws.{OneThingIsAsked, MeFromPart};
+ghost use Rattle.acct_desk.specs.LoginLaws.{PaidOctetsCostTheBalance, LoginKeepsBalance};
 
 /// No request asks a desk for two things.
 pub fn one_thing_is_asked()
@@ -11,4 +12,17 @@ pub fn one_thing_is_asked()
 /// over both, if the book answers and there is memory.
 pub fn me_from_part()
     ensures { MeFromPart }
+{}
+
+/// A session whose counted number rises by at most what a balance pays costs at most the balance
+/// more, also from a block that it has begun.
+pub fn paid_octets_cost_the_balance()
+    ensures { PaidOctetsCostTheBalance }
+{}
+
+/// A login is told what the balance of its account pays by a plan. While only one session of that
+/// plan is charged, and counts at most so much more, the balance stays at 0 or above. Of a plan
+/// without a price nothing is said, and with several sessions the balance may fall below 0.
+pub fn login_keeps_balance()
+    ensures { LoginKeepsBalance }
 {}

@@ -7,6 +7,8 @@ mod handling;
 mod head;
 mod keys;
 pub mod laws;
+mod login;
+mod login_path;
 mod pages;
 mod refusals;
 mod request_reader;
@@ -15,5 +17,5 @@ mod top_up_body;
 
 pub use framing::{Reach, extent};
 pub use handling::handle;
-pub use keys::{DeskKey, Keys, KeysError, Role};
+pub use keys::{DeskKey, Keys, KeysError, Role, Signing};
 pub use request_reader::{ReadFault, read_request};

@@ -1,6 +1,6 @@
 //! The pages that the desk makes from the book.
 ghost use Rattle.std.specs.Prelude.{◌≡◌, ◌≢◌, false, List, [], ◌∷◌, ◌++◌, Err, IfOk, OnOk, IsOk};
-ghost use Rattle.std.specs.Prelude.{IsErr, map, option_map, codes};
+ghost use Rattle.std.specs.Prelude.{IsErr, map, option_map, codes, string_bytes};
 ghost use Rattle.std.specs.List.{filter_map};
 ghost use Rattle.std.specs.Option.{option_copied};
 ghost use Rattle.std.specs.Result.{ForOk};
@@ -8,16 +8,22 @@ ghost use Rattle.serde_json.specs.Data.{array, object, member, no_members};
 ghost use Rattle.serde_json.specs.View.{view, items_view};
 ghost use Rattle.serde_json.specs.Written.{has_float};
 ghost use Rattle.acct_model.specs.declared.plan.Plan.{Plan};
-ghost use Rattle.acct_desk.specs.Asks.{me, overruns};
+ghost use Rattle.acct_desk.specs.Asks.{me, overruns, look, login};
 ghost use Rattle.acct_desk_pages.specs.Bodies.{balance_body, overrun_in};
+ghost use Rattle.acct_desk_pages.specs.Logins.{login_body};
+ghost use Rattle.acct_desk_pages.specs.Responses.{error_body};
 ghost use Rattle.acct_desk.specs.declared.asking.Page.TheVariants as page;
-ghost use Rattle.acct_desk.specs.inner.Pages.{Shows, IsPageResponse};
+ghost use Rattle.acct_desk.specs.inner.LoginView.{login_view};
+ghost use Rattle.acct_desk.specs.inner.Pages.{Shows, ShowsBy, IsPageResponse, IsResponseBy};
+ghost use Rattle.acct_desk.specs.inner.Pages.{told_of};
 
-use acct_book::{Book, Unavailable, WALK_LIMIT, overrun};
+use crate::login::Login;
+use acct_book::{Book, Row, Unavailable, WALK_LIMIT, overrun};
 use acct_desk_pages::bodies::{
     PageError, balance_value, overrun_value, sessions_value, topups_value,
 };
-use acct_desk_pages::json_response::{respond, unavailable_octets};
+use acct_desk_pages::json_response::{error_value, respond, unavailable_octets};
+use acct_desk_pages::login::{is_short, login_value};
 use acct_model::{NoMemory, Plans};
 use http::StatusCode;
 use serde_json::{Value, json};
@@ -78,6 +84,65 @@ pub(crate) fn topups_page<B: Book>(
 {
     let topups = book.topups_of(account)?;
     topups_value(alloc, account, &topups)
+}
+
+// What is told: a status and a body.
+#[derive(Drop)]
+pub(crate) struct Told {
+    pub status: StatusCode,
+    pub body: Value,
+}
+
+// What a login may use. If the balance is too low for a block, the sessions are not read.
+pub(crate) fn login_page<B: Book>(
+    alloc: Global,
+    book: &mut B,
+    asked: &Login<'_>,
+) -> Result<Told, PageError>
+    ensures { (plans : List Plan)
+        → ShowsBy told_of plans (look (login (login_view asked.now))) B.Book
+        book.old book.new result }
+{
+    let balance = book.balance(asked.account.as_slice())?;
+    if is_short(asked.plan, balance) {
+        return no_balance(alloc);
+    }
+    let rows = book.sessions_of(asked.account.as_slice())?;
+    told_login(alloc, asked, balance, &rows)
+}
+
+// That the balance is too low.
+fn no_balance(alloc: Global) -> Result<Told, PageError>
+    ensures { IfOk result (λ told. told_of told ≡ (402, error_body (codes "no balance"))) }
+{
+    let body = error_value(alloc, "no balance")?;
+    Ok(Told {
+        status: StatusCode::PAYMENT_REQUIRED,
+        body,
+    })
+}
+
+// How much may be used.
+fn told_login(
+    alloc: Global,
+    asked: &Login<'_>,
+    balance: i64,
+    rows: &[Row],
+) -> Result<Told, PageError>
+    ensures { IfOk result (λ told. told_of told
+        ≡ (
+          200,
+          login_body asked.now.plan.now (string_bytes asked.now.stamp) asked.now.heard
+              balance rows.now,
+        )) }
+{
+    let heard = asked.heard.as_ref();
+    let stamp = asked.stamp.as_str();
+    let body = login_value(alloc, asked.plan, stamp, heard, balance, rows)?;
+    Ok(Told {
+        status: StatusCode::OK,
+        body,
+    })
 }
 
 // The body of `/overruns`. It holds the overdrawn accounts, and one account of the book at a time.
@@ -145,6 +210,22 @@ pub(crate) fn page_octets(
 {
     let octets = match page {
         Ok(body) => respond(alloc, StatusCode::OK, "", &body),
+        Err(PageError::Unavailable) => unavailable_octets(alloc),
+        Err(PageError::Memory) => return Err(NoMemory),
+    };
+    match octets {
+        Ok(octets) => Ok(octets),
+        Err(_) => Err(NoMemory),
+    }
+}
+
+// The response with what is told, or the one if the book was unavailable.
+pub(crate) fn told_octets(alloc: Global, told: Result<Told, PageError>) -> Result<Vec<u8>, NoMemory>
+    requires { ForOk told (λ t. has_float (view t.body) ≡ false) }
+    ensures { IfOk result (λ octets. IsResponseBy told_of told octets.items) }
+{
+    let octets = match told {
+        Ok(told) => respond(alloc, told.status, "", &told.body),
         Err(PageError::Unavailable) => unavailable_octets(alloc),
         Err(PageError::Memory) => return Err(NoMemory),
     };

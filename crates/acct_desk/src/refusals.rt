@@ -30,6 +30,7 @@ pub(crate) fn refusal_octets(alloc: Global, refusal: Refusal) -> Result<Vec<u8>,
         ),
         Refusal::NotAllowed => error_octets(alloc, StatusCode::FORBIDDEN, "", "not allowed"),
         Refusal::BadTopUp => error_octets(alloc, StatusCode::UNPROCESSABLE_ENTITY, "", "bad topup"),
+        Refusal::BadLogin => error_octets(alloc, StatusCode::UNPROCESSABLE_ENTITY, "", "bad login"),
     }
 }
 

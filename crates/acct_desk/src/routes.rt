@@ -1,6 +1,6 @@
 //! The paths of the desk.
 ghost use Rattle.std.specs.Prelude.{◌≡◌, IfOk};
-ghost use Rattle.acct_desk.specs.Routes.{endpoint_of, desk_rows, method_of};
+ghost use Rattle.acct_desk.specs.Routes.{fixed_endpoint, desk_rows, method_of};
 
 use matchit::{InsertError, Router};
 use std::alloc::Global;
@@ -18,9 +18,11 @@ pub enum Endpoint {
     TopUps,
     /// `/overruns`: the accounts whose balance is below 0.
     Overruns,
+    /// `/logins/ACCOUNT/CLASS[/LOGIN[/STATION/SECONDS]]`: what a login may use, and its stamp.
+    Logins,
 }
 
-// The router of the five paths.
+// The router of the five paths that are always there.
 pub(crate) fn router(alloc: Global) -> Result<Router<Endpoint>, InsertError>
     ensures { IfOk result (λ router. router ≡ desk_rows) }
 {
@@ -33,10 +35,10 @@ pub(crate) fn router(alloc: Global) -> Result<Router<Endpoint>, InsertError>
     Ok(router)
 }
 
-// The endpoint at a path.
+// The endpoint at one of them.
 pub(crate) fn endpoint_at(router: &Router<Endpoint>, path: &str) -> Option<Endpoint>
     requires { router.now ≡ desk_rows }
-    ensures { result ≡ endpoint_of path.now }
+    ensures { result ≡ fixed_endpoint path.now }
 {
     match router.at(path) {
         Ok(found) => Some(*found.value),

@@ -1,2 +1,3 @@
 pub mod Responses
 pub mod Bodies
+pub mod Logins

@@ -176,7 +176,7 @@ fn put_state(
     Ok(())
 }
 
-fn put_text(
+pub(crate) fn put_text(
     members: &mut Map<String, Value>,
     alloc: Global,
     name: &str,
@@ -188,7 +188,7 @@ fn put_text(
     serde_json::put(members, alloc, name, Value::from(text))
 }
 
-fn put_number(
+pub(crate) fn put_number(
     members: &mut Map<String, Value>,
     alloc: Global,
     name: &str,

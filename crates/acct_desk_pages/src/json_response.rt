@@ -67,7 +67,8 @@ pub fn result_octets(alloc: Global, status: StatusCode, words: &str) -> Result<V
     respond(alloc, status, "", &body)
 }
 
-fn error_value(alloc: Global, words: &str) -> Result<Value, AllocError>
+/// The body that names an error.
+pub fn error_value(alloc: Global, words: &str) -> Result<Value, AllocError>
     ensures { IfOk result (λ v. view v ≡ error_body words.now) }
 {
     json!(in alloc; {"error": words})

@@ -3,3 +3,4 @@
 
 pub mod bodies;
 pub mod json_response;
+pub mod login;

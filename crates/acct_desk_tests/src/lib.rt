@@ -6,6 +6,8 @@ mod keys;
 #[cfg(test)]
 mod limits;
 #[cfg(test)]
+mod logins;
+#[cfg(test)]
 mod many;
 #[cfg(test)]
 mod pages;

@@ -2,17 +2,13 @@
 use crate::sample_desk::Desk;
 use crate::texts::{
     ADDED, BAD_TOP_UP, BALANCE, CURL_TOP_UP, DIFFERS, MY_SESSIONS, MY_TOP_UPS, MY_VOUCHERS,
-    ONE_SESSION, OTHER_SUM, REPEATED, Turn, WHO_IS_OVER,
+    ONE_SESSION, OTHER_SUM, REPEATED, Turn, UNAVAILABLE, WHO_IS_OVER,
 };
 use acct_book::{Book, MemBook};
 use acct_book_fakes::FailingBook;
 use acct_model::TopUp;
 use std::alloc::Global;
 use std::test::Fail;
-
-const UNAVAILABLE: &[u8] = b"HTTP/1.1 503 Service Unavailable\r\nContent-Type: application/json\r\n\
-    Content-Length: 23\r\nConnection: close\r\n\r\n\
-    {\"error\":\"unavailable\"}";
 
 const LIMIT: &[u8] = b"HTTP/1.1 422 Unprocessable Entity\r\nContent-Type: application/json\r\n\
     Content-Length: 25\r\nConnection: close\r\n\r\n\

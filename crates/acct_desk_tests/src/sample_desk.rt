@@ -11,7 +11,7 @@ use std::test::Fail;
 pub(crate) struct Desk<B> {
     pub(crate) book: B,
     pub(crate) keys: Keys,
-    plans: Plans,
+    pub(crate) plans: Plans,
 }
 
 impl<B: Drop> Drop for Desk<B> {

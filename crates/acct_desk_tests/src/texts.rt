@@ -60,6 +60,11 @@ pub(crate) const NOT_ALLOWED: &[u8] =
     b"HTTP/1.1 403 Forbidden\r\nContent-Type: application/json\r\nContent-Length: 23\r\n\
     Connection: close\r\n\r\n{\"error\":\"not allowed\"}";
 
+pub(crate) const UNAVAILABLE: &[u8] =
+    b"HTTP/1.1 503 Service Unavailable\r\nContent-Type: application/json\r\n\
+    Content-Length: 23\r\nConnection: close\r\n\r\n\
+    {\"error\":\"unavailable\"}";
+
 pub(crate) const BAD_TOP_UP: &[u8] =
     b"HTTP/1.1 422 Unprocessable Entity\r\nContent-Type: application/json\r\n\
     Content-Length: 21\r\nConnection: close\r\n\r\n\

@@ -186,7 +186,7 @@ static REFUSED: [Refused; 50] = [
 ];
 
 // Texts that come after a plan `default`.
-static REFUSED_KEYS: [Refused; 17] = [
+static REFUSED_KEYS: [Refused; 21] = [
     ("key = [true]", "BadShape in Key 0"),
     ("key = [{token='al-key-0000000001'}]", "BadShape in Key 0"),
     (
@@ -197,6 +197,15 @@ static REFUSED_KEYS: [Refused; 17] = [
         "key = [{token='', account='al', cashier=false}]",
         "BadShape in Key 0",
     ),
+    (
+        "key = [{token='', account='al', logins=true}]",
+        "BadShape in Key 0",
+    ),
+    (
+        "key = [{token='', cashier=true, logins=true}]",
+        "BadShape in Key 0",
+    ),
+    ("key = [{token='', logins='true'}]", "BadShape in Key 0"),
     ("key = [{token='', cashier=1}]", "BadShape in Key 0"),
     ("key = [{token='', account=1}]", "BadShape in Key 0"),
     ("key = [{token=1, account='al'}]", "BadShape in Key 0"),
@@ -222,6 +231,10 @@ static REFUSED_KEYS: [Refused; 17] = [
     ),
     (
         "key = [{token='al-key-0000000001', cashier=false}]",
+        "BadKey in Key 0",
+    ),
+    (
+        "key = [{token='al-key-0000000001', logins=false}]",
         "BadKey in Key 0",
     ),
     // A bad key before a table of the wrong shape.
@@ -395,11 +408,12 @@ pub(crate) fn is_plan(plan: &Plan, class: &[u8], block: u64, unit: u64) -> bool 
 
 // Whether a key has a token and is that of an account, or of the cashier if there is none.
 pub(crate) fn is_key(key: &DeskKey, token: &str, account: Option<&[u8]>) -> bool {
-    let owner = match &key.role {
-        Role::Account(octets) => Some(octets.as_slice()),
-        Role::Cashier => None,
+    let is_owner = match (&key.role, account) {
+        (Role::Account(octets), Some(account)) => octets.as_slice() == account,
+        (Role::Cashier, None) => true,
+        _ => false,
     };
-    key.token.as_str() == token && owner == account
+    key.token.as_str() == token && is_owner
 }
 
 fn are_sample_prices(config: &Config) -> bool {

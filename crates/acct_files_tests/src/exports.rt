@@ -3,9 +3,10 @@ use crate::imports::VOUCHERS;
 use acct_book::{Book, MemBook, Row, SessionState};
 use acct_book_fakes::FailingBook;
 use acct_files::{
-    ExportError, export_balances, export_overruns, export_sessions, export_topups, import,
+    ExportError, export_balances, export_overruns, export_plans, export_sessions, export_topups,
+    import,
 };
-use acct_model::{Octets, Plans, Text};
+use acct_model::{Count, Octets, Plan, Plans, Text};
 use acct_site::sample_plans;
 use std::alloc::Global;
 use std::io;
@@ -279,4 +280,35 @@ fn expect_calls(alloc: Global, downloads: &[Download]) -> Result<(), Fail> {
 #[test]
 fn refused_calls_are_told(rt: HostRuntime) -> Result<(), Fail> {
     expect_calls(rt.alloc(), &DOWNLOADS)
+}
+
+// A plan of a class, and what it counts.
+fn plan(alloc: Global, class: &[u8], count: Count) -> Result<Plan, Fail> {
+    Ok(Plan {
+        class: Octets::from_slice(alloc, class)?,
+        block: 9_007_199_254_740_992,
+        unit: 1_000_000_000,
+        count,
+    })
+}
+
+// The lines of plans whose classes are shown or in quotes.
+fn plan_lines(alloc: Global) -> Result<Vec<u8>, Fail> {
+    let plans = [
+        plan(alloc, b"a,b", Count::Both)?,
+        plan(alloc, b"\xff\"%", Count::Input)?,
+        plan(alloc, b"", Count::Output)?,
+    ];
+    match export_plans(alloc, &plans, Vec::new(alloc)) {
+        Ok(text) => Ok(text),
+        Err(_) => Err("not written".into()),
+    }
+}
+
+#[test]
+fn writes_plans(rt: HostRuntime) -> Result<(), Fail> {
+    let wanted = b"class,block,unit,count\n\"a,b\",9007199254740992,1000000000,both\n\
+        \"%FF\"\"%25\",9007199254740992,1000000000,in\n,9007199254740992,1000000000,out\n";
+    assert_eq!(rt; plan_lines(rt.alloc())?.as_slice(), wanted.as_slice());
+    Ok(())
 }

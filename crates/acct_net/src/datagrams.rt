@@ -10,7 +10,7 @@ ghost use Rattle.std.specs.Prelude.{◌≡◌, ◌<◌, ◌-◌, ◌^◌, true, 
 ghost use Rattle.std.specs.Prelude.{IsSome, OnErr, OnOk, is_some};
 ghost use Rattle.std.specs.Prelude.{◌↔◌, ◌+◌, IfOk, IfSome, IsErrAnd, IsOkAnd};
 ghost use Rattle.std.specs.List.{All, list_any, position};
-ghost use Rattle.acct_net.specs.Bound.{AreBoundAt};
+ghost use Rattle.acct_net.specs.Bound.{AreUnheardAt};
 ghost use Rattle.acct_net.specs.inner.RadiusSockets.{HasFault, HasNotSent, HasReceived, HasSent};
 ghost use Rattle.acct_net.specs.inner.RadiusSockets.{IsWokenAt, MayReceiveAt};
 ghost use Rattle.acct_net.specs.inner.Turns.{in_turn};
@@ -55,22 +55,26 @@ struct RadiusSocket {
 }
 
 impl Datagrams {
-    /// Binds a socket at each address. At port 0 the system chooses one for each.
+    /// Binds a socket at each of these IPv4 addresses. At port 0 the system chooses one for each.
+    /// From now on the system keeps what arrives, as far as it has room.
     ///
     /// # Errors
     ///
-    /// Those of the system, and `OutOfMemory`.
+    /// Those of the system: the port is taken or needs a right that the program hasn't, or the
+    /// machine hasn't an address. `InvalidInput` if there is no address, and `OutOfMemory`.
     pub fn bind<R: Net>(
         runtime: &R,
         alloc: Global,
         addresses: &[[u8; 4]],
         port: u16,
     ) -> io::Result<Datagrams>
-        ensures bound { IfOk result (λ bound. AreBoundAt addresses.now port bound.sockets.items) }
+        ensures bound { IfOk result (AreUnheardAt addresses.now port) }
         ensures heard { IfOk result (λ bound.
             All (λ socket. socket.may_receive ≡ true) bound.sockets.items) }
-        ensures receives { IfOk result (λ bound. bound.receives ≡ 0) }
     {
+        if addresses.is_empty() {
+            return Err(io::Error::from(ErrorKind::InvalidInput));
+        }
         let mut sockets = Vec::with_capacity(alloc, addresses.len())?;
         for address in addresses {
             sockets.push(RadiusSocket::bind(runtime, *address, port)?)?;

@@ -7,4 +7,5 @@ mod event_loop;
 mod readiness;
 mod sockets;
 
+pub use datagrams::Datagrams;
 pub use sockets::Sockets;

@@ -6,7 +6,6 @@ ghost use Rattle.std.specs.Prelude.{◌≡◌, ◌+◌, ◌-◌, ◌<◌, ◌≤
 ghost use Rattle.std.specs.Prelude.{OnErr, OnOk};
 ghost use Rattle.std.specs.List.{list_any};
 ghost use Rattle.acct_service.specs.Told.{CountsFault, Grows, given, sent};
-ghost use Rattle.acct_net.specs.Bound.{AreBoundAt};
 ghost use Rattle.acct_net.specs.inner.Places.{HasFailed, IsAnswered, IsOfUnanswered};
 ghost use Rattle.acct_net.specs.inner.RadiusSockets.{IsFault, IsReceived, IsSent, IsUnsent};
 
@@ -18,7 +17,6 @@ use acct_wire::Reason;
 use std::alloc::Global;
 use std::cell::Cell;
 use std::io;
-use std::io::ErrorKind;
 use std::net::Net;
 use std::time::Clock;
 
@@ -49,32 +47,27 @@ impl<'r, R: Net> Drop for Sockets<'r, R> {
 }
 
 impl<'r, R: Net + Clock> Sockets<'r, R> {
-    /// Binds a socket for datagrams at each of these IPv4 addresses, and one for callers at the
-    /// desk's. At port 0 the system chooses one for each.
+    /// These sockets for datagrams, and one for callers that is bound at this IPv4 address and port.
+    /// At port 0 the system chooses one.
     ///
     /// # Errors
     ///
-    /// Those of the system: a port is taken or needs a right that the program hasn't, or the
-    /// machine hasn't the address. `InvalidInput` if there is no address for datagrams, and
-    /// `OutOfMemory` if there is no memory for the sockets, for a datagram and for callers.
-    pub fn bind(
+    /// Those of the system: the port is taken or needs a right that the program hasn't, or the
+    /// machine hasn't the address. `OutOfMemory` if there is no memory for a datagram and for
+    /// callers.
+    pub fn over(
         runtime: &'r R,
         alloc: Global,
-        addresses: &[[u8; 4]],
+        datagrams: Datagrams,
         desk_address: [u8; 4],
-        radius_port: u16,
         desk_port: u16,
     ) -> io::Result<Sockets<'r, R>>
+        requires { datagrams.receives ≡ 0 }
         ensures fresh { IfOk result (λ s. (s.turns ≡ 0) × (s.failures ≡ 0)) }
-        ensures datagrams { IfOk result (λ s.
-            AreBoundAt addresses.now radius_port s.event_loop.datagrams.sockets.items) }
+        ensures datagrams { IfOk result (λ s. s.event_loop.datagrams ≡ datagrams) }
         ensures desk { IfOk result (λ s. (s.event_loop.desk.door.address ≡ desk_address)
             × (s.event_loop.desk.door.port ≡ desk_port)) }
     {
-        if addresses.is_empty() {
-            return Err(io::Error::from(ErrorKind::InvalidInput));
-        }
-        let datagrams = Datagrams::bind(runtime, alloc, addresses, radius_port)?;
         let desk = Desk::bind(runtime, alloc, desk_address, desk_port)?;
         Ok(Sockets {
             event_loop: EventLoop::new(runtime, alloc, datagrams, desk)?,

@@ -1,4 +1,5 @@
 //! Several addresses on loopback: who is asked where, and from where each reply leaves.
+use crate::bound::bound_at;
 use crate::callers::{REQUEST, echoes, gets, is_quiet, next};
 use crate::turns::reply;
 use acct_net::Sockets;
@@ -19,7 +20,7 @@ fn bound<'r>(rt: &'r HostRuntime, count: u8) -> Result<Sockets<'r, HostRuntime>,
     for place in 0..count {
         addresses.push(local(place.wrapping_add(1)))?;
     }
-    match Sockets::bind(rt, rt.alloc(), addresses.as_slice(), local(99), 0, 0) {
+    match bound_at(rt, rt.alloc(), addresses.as_slice(), local(99)) {
         Ok(sockets) => Ok(sockets),
         Err(_) => Err("no sockets".into()),
     }
@@ -197,6 +198,6 @@ fn serves_callers_at_the_desks_address(rt: HostRuntime) -> Result<(), Fail> {
 // There is no server without an address for reports.
 #[test]
 fn binds_one_address_at_least(rt: HostRuntime) {
-    let sockets = Sockets::bind(&rt, rt.alloc(), &[], local(1), 0, 0);
+    let sockets = bound_at(&rt, rt.alloc(), &[], local(1));
     assert!(rt; sockets.is_err());
 }

@@ -1,4 +1,5 @@
 //! Callers of the desk on loopback: each kind of them, and many at once.
+use crate::bound::bound_at;
 use crate::turns::{reply, turn};
 use acct_net::Sockets;
 use acct_service::{Event, Exchange, Fault, What};
@@ -15,7 +16,7 @@ pub(crate) const REQUEST: &[u8] =
 
 /// Sockets on loopback, and the port of their desk.
 pub fn bound<'r>(rt: &'r HostRuntime) -> Result<(Sockets<'r, HostRuntime>, u16), Fail> {
-    let Ok(sockets) = Sockets::bind(rt, rt.alloc(), &[LOOPBACK], LOOPBACK, 0, 0) else {
+    let Ok(sockets) = bound_at(rt, rt.alloc(), &[LOOPBACK], LOOPBACK) else {
         return Err("no sockets".into());
     };
     let (_, desk) = sockets.ports()?;

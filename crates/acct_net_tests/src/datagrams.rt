@@ -1,5 +1,6 @@
 //! Datagrams of two sources, very many of them, and those of each size: each is an event as it was
 //! sent, at the clock's moment, and each reply comes back.
+use crate::bound::bound_at;
 use crate::flaky::Flaky;
 use crate::seed::{number_within, octets_of};
 use crate::turns::{reply, turn};
@@ -66,7 +67,7 @@ impl Source {
 }
 
 fn bound<'r>(flaky: &'r Flaky) -> Result<Sockets<'r, Flaky>, Fail> {
-    match Sockets::bind(flaky, flaky.host.alloc(), &[SERVER], SERVER, 0, 0) {
+    match bound_at(flaky, flaky.host.alloc(), &[SERVER], SERVER) {
         Ok(sockets) => Ok(sockets),
         Err(_) => Err("no sockets".into()),
     }

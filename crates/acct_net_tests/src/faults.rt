@@ -1,8 +1,8 @@
 //! Faults of accepts, and the moment of a request, over a runtime whose accepts fail at first.
+use crate::bound::bound_at;
 use crate::callers::{REQUEST, caller, gets, next};
 use crate::flaky::Flaky;
 use crate::turns::{reply, turn};
-use acct_net::Sockets;
 use acct_service::{Exchange, Fault, What};
 use std::io::ErrorKind;
 use std::test::Fail;
@@ -30,7 +30,7 @@ fn is_served_after_a_fault<X: Exchange>(exchange: &mut X) -> bool {
 fn counts(flaky: &Flaky, fault: ErrorKind) -> Result<bool, Fail> {
     flaky.fault.set(fault);
     let (alloc, here) = (flaky.host.alloc(), [127, 0, 0, 1]);
-    let Ok(mut sockets) = Sockets::bind(flaky, alloc, &[here], here, 0, 0) else {
+    let Ok(mut sockets) = bound_at(flaky, alloc, &[here], here) else {
         return Err("no sockets".into());
     };
     let (_, desk) = sockets.ports()?;

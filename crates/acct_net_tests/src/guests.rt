@@ -1,9 +1,9 @@
 //! A hundred guests at once, with a key and an account each: each gets the page of the own account.
+use crate::bound::bound_at;
 use crate::callers::{callers, gets};
 use acct_book::MemBook;
 use acct_desk::{DeskKey, Keys, Role};
 use acct_model::{Octets, Text};
-use acct_net::Sockets;
 use acct_service::serve;
 use acct_site::{Config, sample_clients, sample_plans};
 use std::alloc::Global;
@@ -60,7 +60,7 @@ fn each_guest_gets_its_page(rt: HostRuntime) -> Result<(), Fail> {
         plans: sample_plans(rt.alloc())?,
         keys: keys(rt.alloc())?,
     };
-    let Ok(mut sockets) = Sockets::bind(&rt, rt.alloc(), &[HERE], HERE, 0, 0) else {
+    let Ok(mut sockets) = bound_at(&rt, rt.alloc(), &[HERE], HERE) else {
         return Err("no sockets".into());
     };
     let (_, desk) = sockets.ports()?;

@@ -4,6 +4,8 @@
 #[cfg(test)]
 mod addresses;
 #[cfg(test)]
+mod bound;
+#[cfg(test)]
 mod callers;
 #[cfg(test)]
 mod datagrams;

@@ -1,10 +1,10 @@
 //! Callers at all places: each is heard whenever it asks, and each one's time is up.
+use crate::bound::bound_at;
 use crate::callers::{
     REQUEST, bound, callers_of, each_gets_its_own, echo_all, first_gets, is_quiet, next, request_of,
 };
 use crate::flaky::Flaky;
 use crate::turns::turn;
-use acct_net::Sockets;
 use acct_service::Exchange;
 use std::io::Write;
 use std::net::TcpStream;
@@ -46,7 +46,7 @@ fn faults_of<X: Exchange>(exchange: &mut X, turns: usize) -> usize {
 #[test]
 fn drops_each_silent_caller(rt: HostRuntime) -> Result<(), Fail> {
     let (flaky, here) = (Flaky::at(rt, 1_700_000_123), [127, 0, 0, 1]);
-    let Ok(mut sockets) = Sockets::bind(&flaky, flaky.host.alloc(), &[here], here, 0, 0) else {
+    let Ok(mut sockets) = bound_at(&flaky, flaky.host.alloc(), &[here], here) else {
         return Err("no sockets".into());
     };
     let (_, desk) = sockets.ports()?;

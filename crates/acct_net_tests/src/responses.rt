@@ -1,9 +1,9 @@
 //! Responses around the most octets of one write, and a caller who takes nothing of its response.
+use crate::bound::bound_at;
 use crate::callers::{REQUEST, bound, caller, is_answered, is_quiet, takes_slowly};
 use crate::flaky::Flaky;
 use crate::seed::{number_within, octets_of};
 use crate::turns::turn;
-use acct_net::Sockets;
 use acct_service::{Exchange, Fault};
 use std::cell::Cell;
 use std::test::Fail;
@@ -51,7 +51,7 @@ fn is_dropped_in_time<X: Exchange>(exchange: &mut X, response: &[u8], ahead: &Ce
 fn drops_who_takes_nothing(rt: HostRuntime) -> Result<(), Fail> {
     let flaky = Flaky::at(rt, 1_700_000_123);
     let response = octets_of(&flaky.host, 16_000_000)?;
-    let Ok(mut sockets) = Sockets::bind(&flaky, flaky.host.alloc(), &[HERE], HERE, 0, 0) else {
+    let Ok(mut sockets) = bound_at(&flaky, flaky.host.alloc(), &[HERE], HERE) else {
         return Err("no sockets".into());
     };
     let (_, desk) = sockets.ports()?;

@@ -1,5 +1,6 @@
 //! Sockets that are silenced: what arrives is lost, and nobody is answered. Then all is as before.
 use crate::callers::{REQUEST, bound, caller, echoes, gets, next};
+use acct_net::{Datagrams, Sockets};
 use acct_service::{Exchange, What};
 use std::cell::Cell;
 use std::net::UdpSocket;
@@ -47,5 +48,17 @@ fn nothing_is_handed_on(rt: HostRuntime) -> Result<(), Fail> {
     let mut stream = caller(&rt, desk, REQUEST)?;
     assert!(rt; echoes(&mut sockets, TURNS, REQUEST));
     assert_eq!(rt; sockets.failures(), 0);
+    Ok(())
+}
+
+// What comes before the desk is bound waits, and is heard then.
+#[test]
+fn waits_until_there_is_a_desk(rt: HostRuntime) -> Result<(), Fail> {
+    let here = [127, 0, 0, 1];
+    let datagrams = Datagrams::bind(&rt, rt.alloc(), &[here], 0)?;
+    let sender = UdpSocket::bind(&rt, ("127.0.0.1", 0))?;
+    sender.send_to(b"early", ("127.0.0.1", datagrams.port(0)?))?;
+    let mut sockets = Sockets::over(&rt, rt.alloc(), datagrams, here, 0)?;
+    assert!(rt; hears(&mut sockets, b"early"));
     Ok(())
 }

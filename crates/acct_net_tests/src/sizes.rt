@@ -1,9 +1,9 @@
 //! A server on loopback: a datagram and a request that wait already are answered, short ones and
 //! long ones.
+use crate::bound::bound_at;
 use crate::callers::{REQUEST, caller, gets};
 use acct_book::MemBook;
 use acct_model::{Octets, Text};
-use acct_net::Sockets;
 use acct_service::serve;
 use acct_site::{Config, sample_keys, sample_plans};
 use acct_wire::{Client, Clients};
@@ -109,7 +109,7 @@ pub fn serves(
 ) -> Result<bool, Fail> {
     let config = loopback_site(rt.alloc())?;
     let mut buffer = vec![in rt.alloc(); 0; 5_000]?;
-    let Ok(mut sockets) = Sockets::bind(rt, rt.alloc(), &[HERE], HERE, 0, 0) else {
+    let Ok(mut sockets) = bound_at(rt, rt.alloc(), &[HERE], HERE) else {
         return Err("no sockets".into());
     };
     let ports = sockets.ports()?;

@@ -1,5 +1,5 @@
 -- Why no report is accepted that is too old, and none of a session that was carried forward.
-use Rattle.std.proofs.Common.{◌≡◌, ◌+◌, ◌-◌, ◌<◌, ◌≤◌, inl, inr, List, [], ◌∷◌, ℕ, sym, ap, subst}
+use Rattle.std.proofs.Common.{◌≡◌, ◌+◌, ◌-◌, ◌<◌, ◌≤◌, inl, inr, List, [], ◌∷◌, ℕ, sym, ap, subst, ◌∙◌}
 use Rattle.std.proofs.Common.{arith, map, true, false, refl}
 use Rattle.std.specs.Prelude.{Some, None, Option, Contains, nat_lt, max}
 use Rattle.std.proofs.lemmas.Bool.{cases_order}
@@ -20,10 +20,13 @@ use Rattle.acct_model.specs.declared.entry.Entry.TheVariants as entry
 use Rattle.acct_model.specs.Report.{ReportFacts}
 use Rattle.acct_model.specs.Entries.{Attributes, count_at, IsEntryOf}
 use Rattle.acct_book.specs.Effect.{Effect}
-use Rattle.acct_wire.specs.declared.client.Client.{Client}
+use Rattle.acct_wire.specs.declared.hearing.Stamping.{Stamping}
 use Rattle.acct_wire.specs.declared.reason.Reason.{Reason}
 use Rattle.acct_wire.specs.declared.reason.Reason.TheVariants as why
+use Rattle.acct_wire.specs.Clients.{ClientsFacts}
 use Rattle.acct_wire.specs.Datagrams.{IsTooOld, RequestAsksFor}
+use Rattle.acct_wire.specs.Hearing.{heard, teller}
+use Rattle.acct_wire.proofs.Heard.{delay_heard}
 use Rattle.acct_wire.specs.Outcomes.{DropsWithin}
 use Rattle.acct_site.specs.declared.config.Config.{Config}
 use Rattle.acct_service.specs.declared.event.What.{What}
@@ -38,12 +41,14 @@ module _ (oldest moment : ℕ) where
   Young report = moment ≤ report.when + oldest
 
   -- a report that waited no longer (Acct-Delay-Time, 41) is
-  young : (name : List ℕ) (attributes : Attributes) (asked : Entry)
-      → IsEntryOf name attributes moment asked → (IsTooOld (Some oldest) attributes asked → ⊥)
-      → OfReport Young asked
-  young name attributes (entry.Report report) (status, kind, known, of_kind, is) recent =
+  young : (stamping : Option Stamping) (client name : List ℕ) (attributes : Attributes)
+      (asked : Entry) → IsEntryOf client (heard stamping name attributes) moment asked
+      → (IsTooOld (Some oldest) attributes asked → ⊥) → OfReport Young asked
+  young stamping client name attributes (entry.Report report) (status, kind, known, of_kind, is)
+      recent =
       let delay = count_at 41 attributes in
-      let when : report.when ≡ moment - delay = ap (λ r. r.when) is in
+      let when : report.when ≡ moment - delay =
+      ap (λ r. r.when) is ∙ ap (λ d. moment - d) (delay_heard stamping name attributes) in
       elim (cases_order oldest delay) [
         | inl same ↦ omega (arith, when, same)
         | inr order ↦ elim order [
@@ -51,16 +56,17 @@ module _ (oldest moment : ℕ) where
           | inr more ↦ omega (arith, when, more)
         ]
       ]
-  young name attributes (entry.Restart restart) spelled recent = tt
-  young name attributes (entry.TopUp topup) spelled recent = tt
+  young stamping client name attributes (entry.Restart restart) spelled recent = tt
+  young stamping client name attributes (entry.TopUp topup) spelled recent = tt
 
-  asked_young : (clients : List Client) (source bytes : List ℕ) (asked : Entry)
+  asked_young : (clients : ClientsFacts) (source bytes : List ℕ) (asked : Entry)
       (asks : RequestAsksFor clients source bytes moment asked)
       → (IsTooOld (Some oldest) asks.attributes asked → ⊥) → OfReport Young asked
   asked_young clients source bytes asked asks recent =
-      young asks.client.name asks.attributes asked asks.asks.spelled recent
+      young clients.stamping (teller clients.stamping asks.client.name asks.attributes)
+      asks.client.name asks.attributes asked asks.asks.spelled recent
 
-  dropped_young : (clients : List Client) (source bytes : List ℕ) (reason : Reason)
+  dropped_young : (clients : ClientsFacts) (source bytes : List ℕ) (reason : Reason)
       (effect : Effect) → DropsWithin (Some oldest) clients source bytes moment reason effect
       → Tries Young effect
   dropped_young clients source bytes why.BalanceLimit effect says =
@@ -77,7 +83,9 @@ module _ (oldest moment : ℕ) where
       → AnswersEvent (Some oldest) config moment what answer effect → Tries Young effect
   answered_young config (Datagram source port bytes) (replied octets) effect
       (asked, by, recent, is) = subst (Tries Young) (sym is)
-      (young by.client.name by.attributes asked by.asks.spelled recent)
+      (young config.clients.stamping
+      (teller config.clients.stamping by.client.name by.attributes) by.client.name by.attributes
+      asked by.asks.spelled recent)
   answered_young config (Datagram source port bytes) (dropped reason) effect says =
       dropped_young config.clients source bytes reason effect says
   answered_young config (Datagram source port bytes) mute effect says = absurd says

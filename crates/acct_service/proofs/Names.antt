@@ -1,10 +1,11 @@
 -- If no client has the name of a line, no report of a line is accepted.
 use Rattle.std.proofs.Common.{◌≡◌, inl, inr, ℕ, false, List, [], ◌∷◌, ◌++◌, refl, sym, ◌∙◌}
-use Rattle.std.proofs.Common.{ap, subst, append_assoc, true≢false, Option, Result, Ok, Err}
+use Rattle.std.proofs.Common.{ap, subst, append_assoc, true≢false, Option, Some, None, Result, Ok, Err, Bool}
+use Rattle.std.proofs.Common.{true, cond, codes}
 use Rattle.std.proofs.lemmas.List.{append_cancel_right}
 use Rattle.std.proofs.lemmas.List.Elements.{Contains-append_cases, filter_map-append}
 use Rattle.std.specs.Prelude.{Contains}
-use Rattle.std.specs.List.{flat_map}
+use Rattle.std.specs.List.{flat_map, concat}
 use Rattle.acct_model.specs.declared.plan.Plan.{Plan}
 use Rattle.acct_model.specs.declared.entry.Entry.{Entry}
 use Rattle.acct_model.specs.declared.entry.Entry.TheVariants as entry
@@ -21,7 +22,9 @@ use Rattle.acct_book.specs.Effect.{passed, unasked, after_effect}
 use Rattle.acct_wire.specs.declared.client.Client.{Client}
 use Rattle.acct_wire.specs.declared.reason.Reason.{Reason}
 use Rattle.acct_wire.specs.declared.reason.Reason.TheVariants as why
-use Rattle.acct_wire.specs.Clients.{has_address}
+use Rattle.acct_wire.specs.declared.hearing.StampedClient.{StampedClient}
+use Rattle.acct_wire.specs.Clients.{ClientsFacts, has_address}
+use Rattle.acct_wire.specs.Hearing.{heard, teller, told_of, stamped_called, device}
 use Rattle.acct_wire.specs.Datagrams.{RequestAsks}
 use Rattle.acct_wire.specs.Outcomes as wire
 use Rattle.acct_site.specs.declared.config.Config.{Config}
@@ -57,8 +60,8 @@ IsProper asked = OfReport NoLine asked
 abbrev TriesProper : Effect → Type 0
 TriesProper effect = Tries NoLine effect
 
-abbrev Named : List Client → Type 0
-Named clients = (client : Client) → Contains clients client → is_line client.name ≡ false
+abbrev Named : ClientsFacts → Type 0
+Named clients = (client : Client) → Contains clients.list client → is_line client.name ≡ false
 
 spelled_proper : (name : List ℕ) (attributes : Attributes) (moment : ℕ) (asked : Entry)
     → is_line name ≡ false → IsEntryOf name attributes moment asked → IsProper asked
@@ -67,17 +70,36 @@ spelled_proper name attributes moment (entry.Report r) proper (status, kind, is,
 spelled_proper name attributes moment (entry.Restart r) proper spelled = tt
 spelled_proper name attributes moment (entry.TopUp t) proper spelled = tt
 
-asks_proper : (clients : List Client) (source bytes : List ℕ) (moment : ℕ) (client : Client)
+-- the name of a device behind a proxy is no line's
+device_proper : (name device : List ℕ) → is_line name ≡ false
+    → is_line (concat (name ∷ codes "/" ∷ device ∷ [])) ≡ false
+device_proper [] device proper = refl
+device_proper (octet ∷ name) device proper = proper
+
+either_proper : (proxy : Bool) (name device : List ℕ) → is_line name ≡ false
+    → is_line (cond proxy (concat (name ∷ codes "/" ∷ device ∷ [])) name) ≡ false
+either_proper true name device proper = device_proper name device proper
+either_proper false name device proper = proper
+
+told_proper : (name : List ℕ) (attributes : Attributes) (found : Option StampedClient)
+    → is_line name ≡ false → is_line (told_of name attributes found) ≡ false
+told_proper name attributes None proper = proper
+told_proper name attributes (Some client) proper =
+    either_proper client.proxy name (device attributes) proper
+
+asks_proper : (clients : ClientsFacts) (source bytes : List ℕ) (moment : ℕ) (client : Client)
     (identifier : ℕ) (authenticator : List ℕ) (attributes : Attributes) (asked : Entry)
     → Named clients
     → RequestAsks clients source bytes moment client identifier authenticator attributes asked
     → IsProper asked
 asks_proper clients source bytes moment client identifier authenticator attributes asked named
     asks =
-    spelled_proper client.name attributes moment asked
-    (named client (find-some (has_address source) clients client asks.known).0) asks.spelled
+    spelled_proper (teller clients.stamping client.name attributes)
+    (heard clients.stamping client.name attributes) moment asked
+    (told_proper client.name attributes (stamped_called client.name clients.stamping)
+    (named client (find-some (has_address source) clients.list client asks.known).0)) asks.spelled
 
-dropped_proper : (oldest : Option ℕ) (clients : List Client) (source bytes : List ℕ) (moment : ℕ) (reason : Reason)
+dropped_proper : (oldest : Option ℕ) (clients : ClientsFacts) (source bytes : List ℕ) (moment : ℕ) (reason : Reason)
     (effect : Effect) → Named clients
     → wire.DropsWithin oldest clients source bytes moment reason effect → TriesProper effect
 dropped_proper oldest clients source bytes moment why.BalanceLimit effect named says =

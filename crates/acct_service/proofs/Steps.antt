@@ -9,9 +9,9 @@ use Rattle.acct_wire.specs.declared.answering.Outcome.{Outcome}
 use Rattle.acct_wire.specs.declared.answering.Outcome.TheVariants.{Reply, Drop}
 use Rattle.acct_wire.specs.declared.reason.Reason.{Reason}
 use Rattle.acct_wire.specs.declared.reason.Reason.TheVariants as why
-use Rattle.acct_wire.specs.declared.client.Client.{Client}
+use Rattle.acct_wire.specs.Clients.{ClientsFacts}
 use Rattle.acct_wire.specs.Outcomes as wire
-use Rattle.acct_desk.specs.Asks.{Ask, Asks, refused, me, overruns, credit}
+use Rattle.acct_desk.specs.Asks.{Ask, Asks, refused, me, overruns, look, credit}
 use Rattle.acct_desk.specs.Handling.{Handles, Mutes, IsOfBalance}
 use Rattle.acct_desk.proofs.AskLemmas.{one_ask}
 use Rattle.acct_desk_pages.specs.Responses.{unavailable_response}
@@ -29,7 +29,7 @@ response_by (Ok octets) = replied octets.items
 response_by (Err error) = mute
 
 -- a datagram that is dropped never has the effect `looked`
-dropped_looks : (oldest : Option ℕ) (clients : List Client) (source bytes : List ℕ) (moment : ℕ) (reason : Reason)
+dropped_looks : (oldest : Option ℕ) (clients : ClientsFacts) (source bytes : List ℕ) (moment : ℕ) (reason : Reason)
     → wire.DropsWithin oldest clients source bytes moment reason looked → ⊥
 dropped_looks oldest clients source bytes moment why.BalanceLimit says =
     let clash : looked ≡ limited says.0 says.3.0 = says.3.1 in cc
@@ -47,6 +47,8 @@ mute_looks (me page account) (inl is) = let clash : looked ≡ unasked = is in c
 mute_looks (me page account) (inr is) = let clash : looked ≡ passed = is in cc
 mute_looks overruns (inl is) = let clash : looked ≡ unasked = is in cc
 mute_looks overruns (inr is) = let clash : looked ≡ passed = is in cc
+mute_looks (look query) (inl is) = let clash : looked ≡ unasked = is in cc
+mute_looks (look query) (inr is) = let clash : looked ≡ passed = is in cc
 mute_looks (credit topup) is = let clash : looked ≡ unasked = is in cc
 
 module _ {B : Type 0} (b : Ghosts B) (oldest : Option ℕ) (config : Config) (old new : B) where
@@ -72,7 +74,7 @@ module _ {B : Type 0} (b : Ghosts B) (oldest : Option ℕ) (config : Config) (ol
 
   pub request_step : {E : Type 0} (bytes : List ℕ) (moment : ℕ) (ask : Ask)
       (result : Result (Vec ℕ Global) E)
-      → Asks config.keys bytes moment ask → Handles b config.plans ask old new result
+      → Asks config.keys config.plans bytes moment ask → Handles b config.plans ask old new result
       → TakesStep b oldest config moment (Desk bytes) old new (response_by result)
   request_step bytes moment ask (Ok octets) asks h = record {
     effect = h.effect;
@@ -80,7 +82,7 @@ module _ {B : Type 0} (b : Ghosts B) (oldest : Option ℕ) (config : Config) (ol
     does = h.does;
     tells = λ sound history stood is. (ask, asks, h.tells sound history stood is);
     steady = λ steady (other, wants, balance) is. h.steady steady
-        (subst IsOfBalance (one_ask config.keys bytes moment other ask wants asks) balance)
+        (subst IsOfBalance (one_ask config.keys config.plans bytes moment other ask wants asks) balance)
         (let same : octets.items ≡ unavailable_response = cc (is) in same);
   }
   request_step bytes moment ask (Err error) asks h = record {

@@ -9,7 +9,7 @@ use Rattle.acct_book.specs.declared.recording.Recorded.TheVariants.{New, Repeat}
 use Rattle.acct_book.specs.declared.recording.RecordError.{RecordError}
 use Rattle.acct_book.specs.declared.recording.RecordError.TheVariants as error
 use Rattle.acct_book.specs.Effect.{Effect, added, failed, effect_of}
-use Rattle.acct_desk.specs.Asks.{Ask, refused, me, overruns, credit}
+use Rattle.acct_desk.specs.Asks.{Ask, refused, me, overruns, look, credit}
 use Rattle.acct_desk.specs.Handling.{AnswersAsk, Mutes}
 
 -- it holds of the entry, if that is a report
@@ -45,6 +45,11 @@ module _ (P : ReportFacts → Type 0) where
         | inl is ↦ subst (Tries P) (sym is) tt
         | inr (is_octets, is) ↦ subst (Tries P) (sym is) tt
       ]
+  asked_tries (look query) octets effect says =
+      elim says [
+        | inl is ↦ subst (Tries P) (sym is) tt
+        | inr (is_octets, is) ↦ subst (Tries P) (sym is) tt
+      ]
   asked_tries (credit t) octets effect (recorded, is_octets, is) =
       subst (Tries P) (sym is) (recorded_tries t recorded)
 
@@ -56,6 +61,11 @@ module _ (P : ReportFacts → Type 0) where
         | inr is ↦ subst (Tries P) (sym is) tt
       ]
   muted_tries overruns effect says =
+      elim says [
+        | inl is ↦ subst (Tries P) (sym is) tt
+        | inr is ↦ subst (Tries P) (sym is) tt
+      ]
+  muted_tries (look query) effect says =
       elim says [
         | inl is ↦ subst (Tries P) (sym is) tt
         | inr is ↦ subst (Tries P) (sym is) tt

@@ -24,7 +24,11 @@ abbrev v1 : Entry
 v1 = voucher (codes "V-1") (codes "al") 500 1000
 
 abbrev site : Config
-site = record { clients = []; plans = []; keys = [] }
+site = record {
+  clients = record { list = []; stamping = None };
+  plans = [];
+  keys = record { list = []; signing = None };
+}
 
 abbrev event : Event
 event = record { moment = 1000; what = Desk []; moment_fits = omega arith }

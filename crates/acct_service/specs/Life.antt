@@ -153,7 +153,7 @@ carried_in span = []
 -- no client in the configurations of these visits has the name of a line
 abbrev pub HaveProperNames : Span → Type 0
 HaveProperNames (served those visits) = (visit : Visit) → Contains visits visit
-    → (client : Client) → Contains visit.site.clients client → is_line client.name ≡ false
+    → (client : Client) → Contains visit.site.clients.list client → is_line client.name ≡ false
 HaveProperNames span = Unit {0}
 
 -- nothing was carried forward

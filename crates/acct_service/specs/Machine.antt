@@ -60,10 +60,10 @@ AnswersDatagram oldest config source bytes moment mute effect = ⊥
 -- A request at the desk is answered according to what it asks, and is never dropped.
 abbrev pub AnswersRequest : Config → List ℕ → ℕ → Answer → Effect → Type 0
 AnswersRequest config bytes moment (replied octets) effect =
-    (ask : Ask) × Asks config.keys bytes moment ask × AnswersAsk ask octets effect
+    (ask : Ask) × Asks config.keys config.plans bytes moment ask × AnswersAsk ask octets effect
 AnswersRequest config bytes moment (dropped reason) effect = ⊥
 AnswersRequest config bytes moment mute effect =
-    (ask : Ask) × Asks config.keys bytes moment ask × Mutes ask effect
+    (ask : Ask) × Asks config.keys config.plans bytes moment ask × Mutes ask effect
 
 -- what is received at a moment may be answered this way, with this effect
 abbrev pub AnswersEvent : Option ℕ → Config → ℕ → What → Answer → Effect → Type 0
@@ -76,12 +76,13 @@ AnswersEvent oldest config moment (Desk bytes) answer effect =
 abbrev pub AsksBalance : Config → ℕ → What → Type 0
 AsksBalance config moment (Datagram source port bytes) = ⊥
 AsksBalance config moment (Desk bytes) =
-    (ask : Ask) × Asks config.keys bytes moment ask × IsOfBalance ask
+    (ask : Ask) × Asks config.keys config.plans bytes moment ask × IsOfBalance ask
 
 -- the response with what the request asks for, over this history
 abbrev pub IsPage : Config → History → ℕ → What → Answer → Type 0
 IsPage config history moment (Desk bytes) (replied octets) =
-    (ask : Ask) × Asks config.keys bytes moment ask × IsResponseOf config.plans history ask octets
+    (ask : Ask) × Asks config.keys config.plans bytes moment ask
+    × IsResponseOf config.plans history ask octets
 IsPage config history moment what answer = ⊥
 
 -- ---- steps

@@ -1,7 +1,7 @@
 //! The keys of the accounts `al` and `bo`, and that of the cashier.
 ghost use Rattle.std.specs.Prelude.{◌≡◌, IfOk};
 ghost use Rattle.acct_desk.specs.declared.keys.Role.TheVariants.{Account};
-ghost use Rattle.acct_site.specs.SampleSite.{sample_keys};
+ghost use Rattle.acct_site.specs.SampleSite.{sample_keys, sample_key_list};
 
 use acct_desk::{DeskKey, Keys, KeysError, Role};
 use acct_model::{Octets, Text};
@@ -19,7 +19,7 @@ pub fn sample_keys(alloc: Global) -> Result<Keys, KeysError>
 }
 
 fn key_list(alloc: Global) -> Result<Vec<DeskKey>, AllocError>
-    ensures { IfOk result (λ list. list.items ≡ sample_keys) }
+    ensures { IfOk result (λ list. list.items ≡ sample_key_list) }
 {
     let mut list = Vec::new(alloc);
     list.push(account_key(alloc, "al-key-0000000001", b"al")?)?;

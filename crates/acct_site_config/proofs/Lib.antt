@@ -3,3 +3,4 @@ pub mod TableLemmas
 pub mod ClientLemmas
 pub mod PlanLemmas
 pub mod ConfigLemmas
+pub mod StampLemmas

@@ -17,6 +17,8 @@ kind_text kind.NoDefault = codes "NoDefault"
 kind_text kind.BadKey = codes "BadKey"
 kind_text kind.TwiceKeyed = codes "TwiceKeyed"
 kind_text kind.Memory = codes "Memory"
+kind_text kind.BadStamp = codes "BadStamp"
+kind_text kind.NoStamp = codes "NoStamp"
 
 abbrev pub table_text : ConfigTable → List ℕ
 table_text table.Top = codes "Top"

@@ -5,11 +5,12 @@ use Rattle.percent_encoding.specs.Percent.{percent_decode}
 use Rattle.toml.specs.Data.{Data, Members, get_member, as_str, as_bool}
 use Rattle.acct_model.specs.Vouchers.{is_voucher_account}
 use Rattle.acct_desk.specs.declared.keys.Role.{Role}
-use Rattle.acct_desk.specs.declared.keys.Role.TheVariants.{Account, Cashier}
+use Rattle.acct_desk.specs.declared.keys.Role.TheVariants.{Account, Cashier, Logins}
 use Rattle.acct_desk.specs.declared.keys.DeskKey.{DeskKey}
 use Rattle.acct_desk.specs.declared.keys.KeysError.{KeysError}
 use Rattle.acct_desk.specs.declared.keys.KeysError.TheVariants.{BadToken}
 use Rattle.acct_desk.specs.declared.keys.KeysError.TheVariants as fault
+use Rattle.acct_desk.specs.Keys.{KeysFacts}
 use Rattle.acct_desk.specs.KeyFaults.{key_fault}
 use Rattle.acct_site_config.specs.declared.config_error.ConfigKind.{ConfigKind}
 use Rattle.acct_site_config.specs.declared.config_error.ConfigKind.TheVariants.{BadKey}
@@ -19,32 +20,37 @@ use Rattle.acct_site_config.specs.declared.config_error.ConfigError.{ConfigError
 use Rattle.acct_site_config.specs.Tables.{table_shown, text_at, two}
 use Rattle.acct_site_config.specs.Entries as entries
 
--- whom a key's table names: an account, as shown, or whether it is the cashier
+-- whom a key's table names: an account, as shown, or whether it is the cashier, or for logins
 pub data Bearer : Type 0 where
   account : List ℕ → Bearer
   cashier : Bool → Bearer
+  logins : Bool → Bearer
 
--- the bearer that a value names, at `account` and at `cashier`
+-- the bearer that a value names, at `account`, at `cashier` and at `logins`
 abbrev pub account_bearer : Data → Option Bearer
 account_bearer value = option_map account (as_str value)
 
 abbrev pub cashier_bearer : Data → Option Bearer
 cashier_bearer value = option_map cashier (as_bool value)
 
--- the bearer of the values at `account` and `cashier`: exactly one of them
-abbrev pub bearer_of : Option Data → Option Data → Option Bearer
-bearer_of (Some value) None = account_bearer value
-bearer_of None (Some value) = cashier_bearer value
-bearer_of None None = None
-bearer_of (Some _) (Some _) = None
+abbrev pub logins_bearer : Data → Option Bearer
+logins_bearer value = option_map logins (as_bool value)
+
+-- the bearer of the values at `account`, `cashier` and `logins`: exactly one of them
+abbrev pub bearer_of : Option Data → Option Data → Option Data → Option Bearer
+bearer_of (Some value) None None = account_bearer value
+bearer_of None (Some value) None = cashier_bearer value
+bearer_of None None (Some value) = logins_bearer value
+bearer_of _ _ _ = None
 
 abbrev pub bearer_in : Members → Option Bearer
 bearer_in members =
     bearer_of (get_member (codes "account") members) (get_member (codes "cashier") members)
+    (get_member (codes "logins") members)
 
 -- the names of a key's table
 abbrev pub key_names : List (List ℕ)
-key_names = codes "token" ∷ codes "account" ∷ codes "cashier" ∷ []
+key_names = codes "token" ∷ codes "account" ∷ codes "cashier" ∷ codes "logins" ∷ []
 
 -- the token and the bearer of a key's table
 abbrev pub KeyValues : Type 0
@@ -56,13 +62,13 @@ key_values_in members = two (text_at (codes "token") members) (bearer_in members
 abbrev pub key_values : Data → Option KeyValues
 key_values value = option_and_then key_values_in (table_shown key_names value)
 
--- the bearer's role: a percent-decoded account of 1 to 253 octets, or the cashier
+-- the bearer's role: a percent-decoded account of 1 to 253 octets, the cashier, or for logins
 abbrev pub SaysRole : Bearer → Role → Type 0
 SaysRole (account text) (Account octets) =
     (octets ≡ percent_decode text) × (is_voucher_account octets ≡ true)
-SaysRole (account text) Cashier = ⊥
 SaysRole (cashier is) Cashier = is ≡ true
-SaysRole (cashier is) (Account octets) = ⊥
+SaysRole (logins is) Logins = is ≡ true
+SaysRole bearer role = ⊥
 
 -- the values are those of this key
 pub record SaysKey (values : KeyValues) (key : DeskKey) : Type 0 where
@@ -70,8 +76,8 @@ pub record SaysKey (values : KeyValues) (key : DeskKey) : Type 0 where
   pub role_is : SaysRole values.1 key.role
 
 -- the tables spell these keys, each with a token within its rule, of which no two share one
-abbrev pub AreKeyTables : List Data → List DeskKey → Type 0
-AreKeyTables = entries.AreEntries key_values SaysKey key_fault
+abbrev pub AreKeyTables : List Data → KeysFacts → Type 0
+AreKeyTables tables keys = entries.AreEntries key_values SaysKey key_fault tables keys.list
 
 -- the kind of a key's fault
 abbrev pub key_kind : KeysError → ConfigKind
@@ -80,8 +86,9 @@ key_kind fault.TwiceKeyed = TwiceKeyed
 key_kind fault.Memory = Memory
 
 -- why a table after these keys is refused
-abbrev pub IsKeyRefused : List DeskKey → Data → ConfigKind → Type 0
-IsKeyRefused = entries.IsFirstRefused key_values SaysKey key_fault BadKey key_kind
+abbrev pub IsKeyRefused : KeysFacts → Data → ConfigKind → Type 0
+IsKeyRefused earlier =
+    entries.IsFirstRefused key_values SaysKey key_fault BadKey key_kind earlier.list
 
 -- the error is that of the first key's table that is refused
 abbrev pub FirstKeyRefused : List Data → ConfigError → Type 0

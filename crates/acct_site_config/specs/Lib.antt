@@ -3,6 +3,7 @@ pub mod Entries
 pub mod ClientTables
 pub mod PlanTables
 pub mod KeyTables
+pub mod StampTables
 pub mod Config
 pub mod ErrorText
 pub mod inner

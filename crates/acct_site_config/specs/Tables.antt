@@ -1,9 +1,9 @@
 -- The values at the names of a document's tables.
-use Rattle.std.specs.Prelude.{ℕ, ℤ, Bool, List, [], ◌∷◌, length, nat_le, if◌then◌else◌}
-use Rattle.std.specs.Prelude.{Option, Some, None, option_and_then, unwrap_or, bytes_eq}
+use Rattle.std.specs.Prelude.{ℕ, ℤ, Bool, false, List, [], ◌∷◌, length, nat_le, if◌then◌else◌}
+use Rattle.std.specs.Prelude.{Option, Some, None, option_and_then, option_map, unwrap_or, bytes_eq}
 use Rattle.std.specs.List.{list_all, list_any}
-use Rattle.toml.specs.Data.{Data, string, array, Items, no_items, item, Members, no_members, member}
-use Rattle.toml.specs.Data.{get_member, as_str, as_integer, as_table}
+use Rattle.toml.specs.Data.{Data, string, boolean, array, Items, no_items, item, Members, no_members, member}
+use Rattle.toml.specs.Data.{get_member, as_str, as_integer, as_bool, as_table}
 use Rattle.acct_site_config.specs.declared.config_error.ConfigKind.{ConfigKind}
 use Rattle.acct_site_config.specs.declared.config_error.ConfigTable.TheVariants.{Top}
 use Rattle.acct_site_config.specs.declared.config_error.ConfigError.{ConfigError}
@@ -44,6 +44,15 @@ integer_at name table = option_and_then as_integer (get_member name table)
 -- the text at a name, or a default if the name is absent
 abbrev pub text_or : List ℕ → List ℕ → Members → Option (List ℕ)
 text_or default name table = as_str (unwrap_or (get_member name table) (string default))
+
+-- the text at a name, if it is there
+abbrev pub text_if : Option Data → Option (Option (List ℕ))
+text_if None = Some None
+text_if (Some value) = option_map Some (as_str value)
+
+-- the truth value at a name, false if the name is absent
+abbrev pub bool_at : List ℕ → Members → Option Bool
+bool_at name table = as_bool (unwrap_or (get_member name table) (boolean false))
 
 -- the elements of an array
 abbrev pub elements : Items → List Data

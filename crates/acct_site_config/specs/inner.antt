@@ -2,3 +2,4 @@
 pub mod ClientTables
 pub mod KeyTables
 pub mod PlanTables
+pub mod StampTables

@@ -30,6 +30,10 @@ pub enum ConfigKind {
     TwiceKeyed = 9,
     /// Out of memory. It may be returned instead of any other.
     Memory = 10,
+    /// A secret of the stamp is not 16 to 64 octets.
+    BadStamp = 11,
+    /// The logins of a client are stamped, and there is no stamp.
+    NoStamp = 12,
 }
 
 impl From<AllocError> for ConfigKind {
@@ -69,6 +73,8 @@ impl fmt::Display for ConfigKind {
             ConfigKind::BadKey => "BadKey",
             ConfigKind::TwiceKeyed => "TwiceKeyed",
             ConfigKind::Memory => "Memory",
+            ConfigKind::BadStamp => "BadStamp",
+            ConfigKind::NoStamp => "NoStamp",
         })
     }
 }

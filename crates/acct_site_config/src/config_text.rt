@@ -6,11 +6,13 @@ ghost use Rattle.acct_site_config.specs.Config.{IsConfig, IsConfigError};
 ghost use Rattle.acct_site_config.specs.Config as spec;
 ghost use Rattle.acct_site_config.specs.declared.config_error.ConfigKind.TheVariants as kind;
 ghost use Rattle.acct_site_config.specs.Tables.{top_error};
+ghost use Rattle.acct_site_config.specs.inner.StampTables.{stamp_view};
 
 use crate::client_tables::clients_of;
 use crate::config_error::{ConfigError, ConfigKind};
 use crate::key_tables::keys_of;
 use crate::plan_tables::plans_of;
+use crate::stamp_tables::{StampTexts, signing_of, stamp_at, stamping_of};
 use crate::tables::{array_at, only};
 use acct_site::Config;
 use std::alloc::Global;
@@ -37,6 +39,7 @@ const MOST_KEYS: usize = 4_096;
 /// 2. `BadShape`, `BadClient` and `TwiceClient` of each client in its turn.
 /// 3. `BadShape`, `BadPlan` and `TwicePlanned` of each plan, then `NoDefault`.
 /// 4. `BadShape`, `BadKey` and `TwiceKeyed` of each key.
+/// 5. `BadStamp`, or `NoStamp` of the first client that would need a stamp.
 ///
 /// `Memory` may be returned instead of any other. Its table and index mean nothing.
 pub fn config_of(alloc: Global, text: &str) -> Result<Config, ConfigError>
@@ -44,16 +47,18 @@ pub fn config_of(alloc: Global, text: &str) -> Result<Config, ConfigError>
     ensures refused { IfErr result (IsConfigError text.now) }
 {
     let document = document_of(alloc, text)?;
-    let Some((clients, plans, keys)) = arrays_in(&document) else {
+    let Some((tables, plans, keys, stamp)) = arrays_in(&document) else {
         return Err(ConfigError::top(ConfigKind::BadShape));
     };
-    let clients = clients_of(alloc, clients)?;
+    let clients = clients_of(alloc, tables)?;
     let plans = plans_of(alloc, plans)?;
     let keys = keys_of(alloc, keys)?;
+    let stamping = stamping_of(alloc, stamp, tables)?;
+    let signing = signing_of(alloc, stamp)?;
     Ok(Config {
-        clients,
+        clients: clients.heard_by(stamping),
         plans,
-        keys,
+        keys: keys.with_signing(signing),
     })
 }
 
@@ -71,14 +76,20 @@ fn document_of(alloc: Global, text: &str) -> Result<Table, ConfigError>
     }
 }
 
-// The elements of the arrays of the clients, of the plans and of the keys.
-fn arrays_in(document: &Table) -> Option<(&[Value], &[Value], &[Value])>
-    ensures { option_map (λ a. (map view a.0.now, map view a.1.now, map view a.2.now)) result
-        ≡ spec.arrays_in (table_view document.now) }
+// The elements of the arrays of the clients, of the plans and of the keys, and the texts of the
+// stamp, if there is one.
+fn arrays_in(document: &Table) -> Option<(&[Value], &[Value], &[Value], Option<StampTexts<'_>>)>
+    ensures { option_map (λ a. (
+      map view a.0.now,
+      map view a.1.now,
+      map view a.2.now,
+      stamp_view a.3,
+    )) result ≡ spec.arrays_in (table_view document.now) }
 {
-    let document = only(document, &["client", "plan", "key"])?;
+    let document = only(document, &["client", "plan", "key", "stamp"])?;
     let clients = array_at(document, "client", MOST_CLIENTS)?;
     let plans = array_at(document, "plan", MOST_PLANS)?;
     let keys = array_at(document, "key", MOST_KEYS)?;
-    Some((clients, plans, keys))
+    let stamp = stamp_at(document)?;
+    Some((clients, plans, keys, stamp))
 }

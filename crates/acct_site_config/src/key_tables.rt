@@ -21,6 +21,8 @@ pub(crate) enum Bearer<'t> {
     Account(&'t str),
     // The cashier, if it is true.
     Cashier(bool),
+    // The site's front, if it is true.
+    Logins(bool),
 }
 
 // The keys that tables spell, each after the earlier ones.
@@ -86,7 +88,8 @@ fn role_of(alloc: Global, bearer: Bearer<'_>) -> Result<Role, ConfigKind>
             Ok(Role::Account(Octets { octets }))
         }
         Bearer::Cashier(true) => Ok(Role::Cashier),
-        Bearer::Cashier(false) => Err(ConfigKind::BadKey),
+        Bearer::Logins(true) => Ok(Role::Logins),
+        Bearer::Cashier(false) | Bearer::Logins(false) => Err(ConfigKind::BadKey),
     }
 }
 
@@ -95,21 +98,37 @@ fn values_of(value: &Value) -> Option<(&str, Bearer<'_>)>
     ensures { option_map (λ t. (t.0.now, inner.bearer_view t.1)) result
         ≡ spec.key_values (view value.now) }
 {
-    let table = table_of(value, &["token", "account", "cashier"])?;
+    let table = table_of(value, &["token", "account", "cashier", "logins"])?;
     let token = text_at(table, "token")?;
     let bearer = bearer_in(table)?;
     Some((token, bearer))
 }
 
-// The bearer that a key's table names by one of two names.
+// The bearer that a key's table names by one of three names.
 fn bearer_in(table: &Table) -> Option<Bearer<'_>>
     ensures { option_map inner.bearer_view result ≡ spec.bearer_in (table_view table.now) }
 {
-    match (table.get("account"), table.get("cashier")) {
-        (Some(account), None) => account_bearer(account),
-        (None, Some(cashier)) => cashier_bearer(cashier),
-        (Some(_), Some(_)) => None,
-        (None, None) => None,
+    bearer_of(
+        table.get("account"),
+        table.get("cashier"),
+        table.get("logins"),
+    )
+}
+
+// The bearer of the values at these names: exactly one of them.
+fn bearer_of<'t>(
+    account: Option<&'t Value>,
+    cashier: Option<&'t Value>,
+    logins: Option<&'t Value>,
+) -> Option<Bearer<'t>>
+    ensures { option_map inner.bearer_view result ≡ spec.bearer_of (inner.data_view account.entry)
+        (inner.data_view cashier.entry) (inner.data_view logins.entry) }
+{
+    match (account, cashier, logins) {
+        (Some(account), None, None) => account_bearer(account),
+        (None, Some(cashier), None) => cashier_bearer(cashier),
+        (None, None, Some(logins)) => logins_bearer(logins),
+        _ => None,
     }
 }
 
@@ -127,6 +146,15 @@ fn cashier_bearer(value: &Value) -> Option<Bearer<'_>>
 {
     match value.as_bool() {
         Some(is) => Some(Bearer::Cashier(is)),
+        None => None,
+    }
+}
+
+fn logins_bearer(value: &Value) -> Option<Bearer<'_>>
+    ensures { option_map inner.bearer_view result ≡ spec.logins_bearer (view value.now) }
+{
+    match value.as_bool() {
+        Some(is) => Some(Bearer::Logins(is)),
         None => None,
     }
 }

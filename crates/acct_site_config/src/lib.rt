@@ -9,6 +9,7 @@ mod config_text;
 mod entries;
 mod key_tables;
 mod plan_tables;
+mod stamp_tables;
 mod tables;
 
 pub use acct_site::Config;

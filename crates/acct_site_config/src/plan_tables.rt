@@ -98,7 +98,8 @@ fn values_of(value: &Value) -> Option<(&str, i64, i64, &str)>
     Some((class, block, unit, count))
 }
 
-fn is_class(text: &str) -> bool
+// Whether a class has 1 to 253 octets.
+pub(crate) fn is_class(text: &str) -> bool
     ensures { result ≡ spec.is_class text.now }
 {
     !text.is_empty() && text.len() <= LONGEST_CLASS

@@ -3,6 +3,7 @@ ghost use Rattle.std.specs.Prelude.{◌≡◌, map, option_map, bytes_eq, string
 ghost use Rattle.std.specs.BTreeMap.{keys};
 ghost use Rattle.std.specs.List.{list_all, list_any};
 ghost use Rattle.std.specs.Option.{option_copied};
+ghost use Rattle.toml.specs.Data.{get_member};
 ghost use Rattle.toml.specs.View.{view, table_view};
 ghost use Rattle.acct_site_config.specs.Tables as spec;
 
@@ -69,6 +70,30 @@ pub(crate) fn text_or<'t>(table: &'t Table, name: &str, default: &'t str) -> Opt
     match table.get(name) {
         Some(value) => value.as_str(),
         None => Some(default),
+    }
+}
+
+// The text at a name, if there is one: none if its value is no text.
+pub(crate) fn text_if<'t>(table: &'t Table, name: &str) -> Option<Option<&'t str>>
+    ensures { option_map (λ text. option_map (λ t. t.now) text) result
+        ≡ spec.text_if (get_member name.now (table_view table.now)) }
+{
+    match table.get(name) {
+        Some(value) => match value.as_str() {
+            Some(text) => Some(Some(text)),
+            None => None,
+        },
+        None => Some(None),
+    }
+}
+
+// The truth value at a name, false if the name is absent. None if its value is none.
+pub(crate) fn bool_at(table: &Table, name: &str) -> Option<bool>
+    ensures { result ≡ spec.bool_at name.now (table_view table.now) }
+{
+    match table.get(name) {
+        Some(value) => value.as_bool(),
+        None => Some(false),
     }
 }
 

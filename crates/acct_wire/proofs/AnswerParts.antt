@@ -28,7 +28,8 @@ use Rattle.acct_wire.specs.declared.reason.Reason.{Reason}
 use Rattle.acct_wire.specs.declared.reason.Reason.TheVariants.{UnknownClient, BalanceLimit}
 use Rattle.acct_wire.specs.declared.reason.Reason.TheVariants.{Unavailable, TooOld}
 use Rattle.acct_wire.specs.declared.answering.Outcome.TheVariants.{Reply, Drop}
-use Rattle.acct_wire.specs.Clients.{client_at}
+use Rattle.acct_wire.specs.Clients.{ClientsFacts, client_at}
+use Rattle.acct_wire.specs.Hearing.{heard, teller}
 use Rattle.acct_wire.specs.Datagrams.{IsRequest, IsSpelled, BreaksFirst, Breaks, RequestAsks}
 use Rattle.acct_wire.specs.Datagrams.{RequestAsksFor}
 use Rattle.acct_wire.specs.Datagrams.{IsTooOld}
@@ -59,10 +60,10 @@ misspelled secret bytes identifier authenticator attributes entry.Memory request
     inr (refl, (identifier, authenticator, attributes, request, refuses))
 
 -- the attributes of a known client's request are refused
-pub refused : (oldest : Option ℕ) (clients : List Client) (source bytes : List ℕ) (moment : ℕ)
+pub refused : (oldest : Option ℕ) (clients : ClientsFacts) (source bytes : List ℕ) (moment : ℕ)
     (client : Client) (identifier : ℕ) (authenticator : List ℕ) (attributes : Attributes)
     (reason : Reason)
-    → client_at source clients ≡ Some client
+    → client_at source clients.list ≡ Some client
     → IsRequest client.secret bytes identifier authenticator attributes
     → RefusesAs attributes reason
     → IsDropped oldest clients source bytes moment reason
@@ -73,21 +74,21 @@ refused oldest clients source bytes moment client identifier authenticator attri
     (λ (memory, spelled). inr (inr (is ∙ memory, (client, known, spelled))))
     (misspelled client.secret bytes identifier authenticator attributes error request refuses)
 
-no_limit : (clients : List Client) (source bytes : List ℕ) (reason : Reason)
+no_limit : (clients : ClientsFacts) (source bytes : List ℕ) (reason : Reason)
     → Breaks clients source bytes reason → reason ≡ BalanceLimit → ⊥
 no_limit clients source bytes reason (inl (none, is)) limit =
     let clash : UnknownClient ≡ BalanceLimit = sym is ∙ limit in cc
 no_limit clients source bytes reason (inr (client, known, breaks)) limit =
     subst (BreaksFirst client.secret bytes) limit breaks
 
-no_unavailable : (clients : List Client) (source bytes : List ℕ) (reason : Reason)
+no_unavailable : (clients : ClientsFacts) (source bytes : List ℕ) (reason : Reason)
     → Breaks clients source bytes reason → reason ≡ Unavailable → ⊥
 no_unavailable clients source bytes reason (inl (none, is)) memory =
     let clash : UnknownClient ≡ Unavailable = sym is ∙ memory in cc
 no_unavailable clients source bytes reason (inr (client, known, breaks)) memory =
     subst (BreaksFirst client.secret bytes) memory breaks
 
-no_age : (clients : List Client) (source bytes : List ℕ) (reason : Reason)
+no_age : (clients : ClientsFacts) (source bytes : List ℕ) (reason : Reason)
     → Breaks clients source bytes reason → reason ≡ TooOld → ⊥
 no_age clients source bytes reason (inl (none, is)) old =
     let clash : UnknownClient ≡ TooOld = sym is ∙ old in cc
@@ -95,7 +96,7 @@ no_age clients source bytes reason (inr (client, known, breaks)) old =
     subst (BreaksFirst client.secret bytes) old breaks
 
 -- a rule that is broken is the reason
-breaks_so : (oldest : Option ℕ) (clients : List Client) (source bytes : List ℕ) (moment : ℕ)
+breaks_so : (oldest : Option ℕ) (clients : ClientsFacts) (source bytes : List ℕ) (moment : ℕ)
     (reason : Reason) → Breaks clients source bytes reason
     → DropsWithin oldest clients source bytes moment reason unasked
 breaks_so oldest clients source bytes moment BalanceLimit breaks =
@@ -128,7 +129,7 @@ no_topup name attributes moment (entries.Report report) spelled is = is
 no_topup name attributes moment (entries.Restart restart) spelled is = is
 no_topup name attributes moment (entries.TopUp topup) spelled is = spelled
 
-module _ {B : Type 0} (b : Ghosts B) (oldest : Option ℕ) (clients : List Client)
+module _ {B : Type 0} (b : Ghosts B) (oldest : Option ℕ) (clients : ClientsFacts)
     (plans : List Plan) (source bytes : List ℕ) (moment : ℕ) where
   -- an allocation failed for an entry that the datagram asks for
   no_memory : (array : List ℕ) (book : B) (asked : Entry)
@@ -176,7 +177,8 @@ module _ {B : Type 0} (b : Ghosts B) (oldest : Option ℕ) (clients : List Clien
       }
 
       no_repeat : Does b plans old new (effect_of asked (Ok Repeat)) → ⊥
-      no_repeat does = no_topup client.name attributes moment asked asks.spelled does.own
+      no_repeat does = no_topup (teller clients.stamping client.name attributes)
+          (heard clients.stamping client.name attributes) moment asked asks.spelled does.own
 
       -- its entry was recorded
       pub reply_does : (size : ℕ) (before after : List ℕ) (result : Result Recorded RecordError)
@@ -243,7 +245,8 @@ module _ {B : Type 0} (b : Ghosts B) (oldest : Option ℕ) (clients : List Clien
           → result ≡ Err (error.VoucherDiffers kept)
           → Does b plans old new (effect_of asked result) → ⊥
       differs_never result kept is does =
-          no_topup client.name attributes moment asked asks.spelled
+          no_topup (teller clients.stamping client.name attributes)
+          (heard clients.stamping client.name attributes) moment asked asks.spelled
           (subst (λ r. Does b plans old new (effect_of asked r)) is does).own
 
 -- past a reply the array is as it was
@@ -263,16 +266,16 @@ written_past identifier size authenticator secret before after attributes octets
     }
 
 -- a client's signed request spells a report that is too old
-pub aged : (oldest : Option ℕ) (clients : List Client) (source bytes : List ℕ) (moment : ℕ)
-    (client : Client) (secret name : List ℕ) (identifier : ℕ) (authenticator : List ℕ)
+pub aged : (oldest : Option ℕ) (clients : ClientsFacts) (source bytes : List ℕ) (moment : ℕ)
+    (client : Client) (secret : List ℕ) (identifier : ℕ) (authenticator : List ℕ)
     (attributes : Attributes) (asked : Entry)
-    → client_at source clients ≡ Some client → secret ≡ client.secret → name ≡ client.name
+    → client_at source clients.list ≡ Some client → secret ≡ client.secret
     → IsRequest secret bytes identifier authenticator attributes
-    → SpellsEntry name attributes moment asked
+    → SpellsEntry clients.stamping client.name attributes moment asked
     → IsTooOld oldest attributes asked
     → IsDropped oldest clients source bytes moment TooOld
-aged oldest clients source bytes moment client secret name identifier authenticator attributes asked
-    known of_secret of_name request (faultless, spelled) old =
+aged oldest clients source bytes moment client secret identifier authenticator attributes asked
+    known of_secret request (faultless, spelled) old =
     let asks : RequestAsksFor clients source bytes moment asked = record {
       client = client;
       identifier = identifier;
@@ -283,7 +286,7 @@ aged oldest clients source bytes moment client secret name identifier authentica
         request = subst (λ s. IsRequest s bytes identifier authenticator attributes) of_secret
             request;
         faultless = faultless;
-        spelled = subst (λ n. IsEntryOf n attributes moment asked) of_name spelled;
+        spelled = spelled;
       };
     } in
     inr (inl (refl, (asked, asks, old)))

@@ -10,6 +10,8 @@ use Rattle.acct_model.specs.declared.entry.Entry.TheVariants as entries
 use Rattle.acct_model.specs.declared.report.ReportKind.{ReportKind}
 use Rattle.acct_model.specs.Entries.{Attributes, status_of, kind_of, is_restart, report_of}
 use Rattle.acct_model.specs.Entries.{IsEntryOf}
+use Rattle.acct_wire.specs.declared.client.Client.{Client}
+use Rattle.acct_wire.specs.Hearing.{heard, teller}
 use Rattle.acct_wire.specs.Laws.{OneEntryIsAsked}
 
 some_one : {X : Type 0} (o : Option X) (x y : X) → o ≡ Some x → o ≡ Some y → x ≡ y
@@ -49,13 +51,15 @@ one_entry clients source bytes moment c d i j a b ps qs one other x y =
     let same =
     Spells_one _ ps qs (Spells-framed bytes 4 i a ps x.request.framed)
     (Spells-framed bytes 4 j b qs y.request.framed) in
-    let spelled : IsEntryOf d.name qs moment one =
-    subst (λ k. IsEntryOf k.name qs moment one) cd (subst (λ zs. IsEntryOf c.name zs moment one)
-    same x.spelled) in (
+    let told : Client → Attributes → Entry → Type 0 =
+    λ k zs entry. IsEntryOf (teller clients.stamping k.name zs) (heard clients.stamping k.name zs)
+    moment entry in
+    let spelled : told d qs one =
+    subst (λ k. told k qs one) cd (subst (λ zs. told c zs one) same x.spelled) in (
       cd,
       ap (λ xs. slice_index xs 1) fronts,
       parts.0,
       same,
-      entry_one d.name qs moment one other
-          spelled y.spelled,
+      entry_one (teller clients.stamping d.name qs) (heard clients.stamping d.name qs) moment one
+          other spelled y.spelled,
     )

@@ -18,7 +18,7 @@ use Rattle.acct_wire.specs.declared.reason.Reason.TheVariants.{BadAttribute, NoS
 use Rattle.acct_wire.specs.declared.reason.Reason.TheVariants.{UnknownStatus, NoSessionId, BadField}
 use Rattle.acct_wire.specs.declared.reason.Reason.TheVariants.{TotalTooLarge, BalanceLimit}
 use Rattle.acct_wire.specs.declared.reason.Reason.TheVariants.{Unavailable, TooOld}
-use Rattle.acct_wire.specs.Clients.{client_at}
+use Rattle.acct_wire.specs.Clients.{ClientsFacts, client_at}
 use Rattle.acct_wire.specs.Datagrams.{IsRequest, BeginsFront, BeginsRequest, BeginsSigned}
 use Rattle.acct_wire.specs.Datagrams.{IsMisspelled, IsSpelled, BreaksFirst, IsBroken, IsAsking}
 use Rattle.acct_wire.specs.inner.Datagrams.{reason_of}
@@ -232,14 +232,14 @@ spelled_none secret bytes reason spelled breaks =
     (five_at_most secret bytes reason (early_or_late secret bytes reason breaks)) spelled)
 
 -- the source is no client's
-abbrev IsUnknown : List Client → List ℕ → Reason → Type 0
-IsUnknown clients source reason = (client_at source clients ≡ None) × (reason ≡ UnknownClient)
+abbrev IsUnknown : ClientsFacts → List ℕ → Reason → Type 0
+IsUnknown clients source reason = (client_at source clients.list ≡ None) × (reason ≡ UnknownClient)
 
 -- a source has one client at most
 client_one : (found : Option Client) (c d : Client) → found ≡ Some c → found ≡ Some d → d ≡ c
 client_one found c d x y = let same : Some d ≡ Some c = sym y ∙ x in cc
 
-both_one : (clients : List Client) (source bytes : List ℕ) (one other : Reason)
+both_one : (clients : ClientsFacts) (source bytes : List ℕ) (one other : Reason)
     → IsUnknown clients source one ⊎ IsBroken clients source bytes one
     → IsUnknown clients source other ⊎ IsBroken clients source bytes other → one ≡ other
 both_one clients source bytes one other (inl x) (inl y) = x.1 ∙ sym y.1
@@ -249,19 +249,19 @@ both_one clients source bytes one other (inr (c, at, x)) (inl y) =
     let clash : Some c ≡ None = sym at ∙ y.0 in cc
 both_one clients source bytes one other (inr (c, at, x)) (inr (d, also, y)) =
     first_one c.secret bytes one other x (subst (λ k. BreaksFirst k.secret bytes other)
-    (client_one (client_at source clients) c d at also) y)
+    (client_one (client_at source clients.list) c d at also) y)
 
 pub once : OneRuleIsBrokenFirst
 once clients source bytes one other x y = both_one clients source bytes one other x y
 
-asks_none : (clients : List Client) (source bytes : List ℕ) (reason : Reason)
+asks_none : (clients : ClientsFacts) (source bytes : List ℕ) (reason : Reason)
     → IsAsking clients source bytes
     → IsUnknown clients source reason ⊎ IsBroken clients source bytes reason → ⊥
 asks_none clients source bytes reason (c, at, spelled) (inl y) =
     let clash : Some c ≡ None = sym at ∙ y.0 in cc
 asks_none clients source bytes reason (c, at, spelled) (inr (d, also, y)) =
     spelled_none c.secret bytes reason spelled (subst (λ k. BreaksFirst k.secret bytes reason)
-    (client_one (client_at source clients) c d at also) y)
+    (client_one (client_at source clients.list) c d at also) y)
 
 pub asking : AskingBreaksNone
 asking clients source bytes reason asks breaks = asks_none clients source bytes reason asks breaks

@@ -6,6 +6,8 @@ pub mod Judgement
 pub mod Asked
 -- why no two clients share a name or an address
 pub mod ClientLaws
+-- what attributes spell as they are heard
+pub mod Heard
 -- why a request that is faultless requests one at all
 pub mod Spelled
 -- the lines of reasons, one more

@@ -8,7 +8,9 @@ use Rattle.acct_model.specs.declared.entry_reader.EntryError.{EntryError}
 use Rattle.acct_model.specs.declared.entry_reader.EntryError.TheVariants.{NoStatus, UnknownStatus}
 use Rattle.acct_model.specs.Entries.{Attributes, status_of, kind_of, is_restart, status_fault}
 use Rattle.acct_model.specs.Entries.{report_fault, refusal_of, report_of, IsEntryOf}
-use Rattle.acct_wire.specs.declared.client.Client.{Client}
+use Rattle.acct_wire.specs.Clients.{ClientsFacts}
+use Rattle.acct_wire.specs.inner.Hearing.{entry_in}
+use Rattle.acct_wire.proofs.Heard.{heard_so}
 use Rattle.acct_wire.specs.Datagrams.{RequestAsksFor, IsAsking}
 
 no_fault : (e : EntryError) → Some e ≡ None → ⊥
@@ -50,18 +52,23 @@ spelled_some name attributes moment none =
     ] none
 
 -- a datagram that asks for some entry asks for one that can be named
-pub asked_some : (clients : List Client) (source bytes : List ℕ) (moment : ℕ)
+pub asked_some : (clients : ClientsFacts) (source bytes : List ℕ) (moment : ℕ)
     → IsAsking clients source bytes
     → (asked : Entry) × RequestAsksFor clients source bytes moment asked
 asked_some clients source bytes moment
     (client, known, (identifier, authenticator, attributes, request, none)) =
     let spelled = spelled_some client.name attributes moment none in (
-      spelled.0,
+      entry_in clients.stamping client.name attributes spelled.0,
       record {
         client = client;
         identifier = identifier;
         authenticator = authenticator;
         attributes = attributes;
-        asks = record { known = known; request = request; faultless = none; spelled = spelled.1 };
+        asks = record {
+          known = known;
+          request = request;
+          faultless = none;
+          spelled = heard_so clients.stamping client.name attributes moment spelled.0 none spelled.1;
+        };
       },
     )

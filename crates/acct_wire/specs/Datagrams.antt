@@ -18,7 +18,8 @@ use Rattle.acct_wire.specs.declared.reason.Reason.TheVariants.{BadAttribute, NoS
 use Rattle.acct_wire.specs.declared.reason.Reason.TheVariants.{UnknownStatus, NoSessionId, BadField}
 use Rattle.acct_wire.specs.declared.reason.Reason.TheVariants.{TotalTooLarge, BalanceLimit}
 use Rattle.acct_wire.specs.declared.reason.Reason.TheVariants.{Unavailable, TooOld}
-use Rattle.acct_wire.specs.Clients.{client_at}
+use Rattle.acct_wire.specs.Clients.{ClientsFacts, client_at}
+use Rattle.acct_wire.specs.Hearing.{heard, teller}
 
 -- The bytes begin with an Accounting-Request of this identifier, authenticator and list of
 -- attributes, signed with the secret (RFC 2866, section 3).
@@ -77,29 +78,30 @@ BreaksFirst secret bytes Unavailable = ⊥
 BreaksFirst secret bytes TooOld = ⊥
 
 -- the source is a client's, and the bytes break this rule first
-abbrev pub IsBroken : List Client → List ℕ → List ℕ → Reason → Type 0
+abbrev pub IsBroken : ClientsFacts → List ℕ → List ℕ → Reason → Type 0
 IsBroken clients source bytes reason =
     (client : Client)
-    × (client_at source clients ≡ Some client)
+    × (client_at source clients.list ≡ Some client)
     × BreaksFirst client.secret bytes reason
 
 -- the first rule that a datagram breaks: its source is no client's, or its bytes break one
-abbrev pub Breaks : List Client → List ℕ → List ℕ → Reason → Type 0
+abbrev pub Breaks : ClientsFacts → List ℕ → List ℕ → Reason → Type 0
 Breaks clients source bytes reason =
-    ((client_at source clients ≡ None) × (reason ≡ UnknownClient))
+    ((client_at source clients.list ≡ None) × (reason ≡ UnknownClient))
     ⊎ IsBroken clients source bytes reason
 
--- The datagram is a client's signed request that spells this entry.
-pub record RequestAsks (clients : List Client) (source bytes : List ℕ) (moment : ℕ)
+-- The datagram is a client's signed request that spells this entry, as the site hears the client.
+pub record RequestAsks (clients : ClientsFacts) (source bytes : List ℕ) (moment : ℕ)
     (client : Client) (identifier : ℕ) (authenticator : List ℕ) (attributes : Attributes)
     (asked : Entry) : Type 0 where
-  pub known : client_at source clients ≡ Some client
+  pub known : client_at source clients.list ≡ Some client
   pub request : IsRequest client.secret bytes identifier authenticator attributes
   pub faultless : refusal_of attributes ≡ None
-  pub spelled : IsEntryOf client.name attributes moment asked
+  pub spelled : IsEntryOf (teller clients.stamping client.name attributes)
+      (heard clients.stamping client.name attributes) moment asked
 
 -- The datagram requests this entry: it is some client's signed request that spells it.
-pub record RequestAsksFor (clients : List Client) (source bytes : List ℕ) (moment : ℕ)
+pub record RequestAsksFor (clients : ClientsFacts) (source bytes : List ℕ) (moment : ℕ)
     (asked : Entry) : Type 0 where
   pub client : Client
   pub identifier : ℕ
@@ -109,9 +111,9 @@ pub record RequestAsksFor (clients : List Client) (source bytes : List ℕ) (mom
       asked
 
 -- The datagram is a client's signed request that spells some entry, whenever it is received.
-abbrev pub IsAsking : List Client → List ℕ → List ℕ → Type 0
+abbrev pub IsAsking : ClientsFacts → List ℕ → List ℕ → Type 0
 IsAsking clients source bytes =
-    (client : Client) × (client_at source clients ≡ Some client) × IsSpelled client.secret bytes
+    (client : Client) × (client_at source clients.list ≡ Some client) × IsSpelled client.secret bytes
 
 -- ---- how old a report may be
 
@@ -123,7 +125,7 @@ IsTooOld (Some oldest) attributes (entries.Report report) =
 IsTooOld oldest attributes asked = ⊥
 
 -- the datagram is a client's signed request for a report that is too old
-abbrev pub AsksTooOld : Option ℕ → List Client → List ℕ → List ℕ → ℕ → Type 0
+abbrev pub AsksTooOld : Option ℕ → ClientsFacts → List ℕ → List ℕ → ℕ → Type 0
 AsksTooOld oldest clients source bytes moment =
     (asked : Entry) × (asks : RequestAsksFor clients source bytes moment asked)
     × IsTooOld oldest asks.attributes asked

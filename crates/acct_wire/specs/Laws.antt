@@ -5,22 +5,23 @@ use Rattle.acct_model.specs.declared.entry.Entry.{Entry}
 use Rattle.acct_model.specs.Entries.{Attributes}
 use Rattle.acct_wire.specs.declared.client.Client.{Client}
 use Rattle.acct_wire.specs.declared.reason.Reason.{Reason}
+use Rattle.acct_wire.specs.Clients.{ClientsFacts}
 use Rattle.acct_wire.specs.ClientFaults.{clients_fault}
 use Rattle.acct_wire.specs.Datagrams.{Breaks, RequestAsks, IsAsking}
 
 -- no datagram breaks two rules first
 abbrev pub OneRuleIsBrokenFirst : Type 0
-OneRuleIsBrokenFirst = (clients : List Client) (source bytes : List ℕ) (one other : Reason)
+OneRuleIsBrokenFirst = (clients : ClientsFacts) (source bytes : List ℕ) (one other : Reason)
     → Breaks clients source bytes one → Breaks clients source bytes other → one ≡ other
 
 -- none that requests an entry breaks a rule
 abbrev pub AskingBreaksNone : Type 0
-AskingBreaksNone = (clients : List Client) (source bytes : List ℕ) (reason : Reason)
+AskingBreaksNone = (clients : ClientsFacts) (source bytes : List ℕ) (reason : Reason)
     → IsAsking clients source bytes → Breaks clients source bytes reason → ⊥
 
 -- a datagram requests one entry, by one request of one client
 abbrev pub OneEntryIsAsked : Type 0
-OneEntryIsAsked = (clients : List Client) (source bytes : List ℕ) (moment : ℕ)
+OneEntryIsAsked = (clients : ClientsFacts) (source bytes : List ℕ) (moment : ℕ)
     (c d : Client) (i j : ℕ) (a b : List ℕ) (ps qs : Attributes) (one other : Entry)
     → RequestAsks clients source bytes moment c i a ps one
     → RequestAsks clients source bytes moment d j b qs other

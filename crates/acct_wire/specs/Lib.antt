@@ -1,4 +1,5 @@
 pub mod Clients
+pub mod Hearing
 pub mod ClientFaults
 pub mod Reasons
 pub mod Datagrams

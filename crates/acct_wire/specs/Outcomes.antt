@@ -5,6 +5,7 @@ use Rattle.acct_model.specs.declared.entry.Entry.{Entry}
 use Rattle.acct_model.specs.Entries.{Attributes}
 use Rattle.acct_book.specs.Effect.{Effect, added, limited, failed, unasked}
 use Rattle.acct_wire.specs.declared.client.Client.{Client}
+use Rattle.acct_wire.specs.Clients.{ClientsFacts}
 use Rattle.acct_wire.specs.declared.reason.Reason.{Reason}
 use Rattle.acct_wire.specs.declared.reason.Reason.TheVariants.{BalanceLimit, Unavailable}
 use Rattle.acct_wire.specs.declared.reason.Reason.TheVariants.{TooOld}
@@ -15,7 +16,7 @@ use Rattle.acct_wire.specs.Datagrams.{AsksTooOld}
 
 -- The datagram is a client's signed request that spells this entry, and these octets are the reply
 -- to that request (RFC 2866, section 3).
-pub record IsReplyFor (clients : List Client) (source bytes : List ℕ) (moment : ℕ) (asked : Entry)
+pub record IsReplyFor (clients : ClientsFacts) (source bytes : List ℕ) (moment : ℕ) (asked : Entry)
     (octets : List ℕ) : Type 0 where
   pub client : Client
   pub identifier : ℕ
@@ -26,7 +27,7 @@ pub record IsReplyFor (clients : List Client) (source bytes : List ℕ) (moment 
   pub reply : octets ≡ reply_octets identifier authenticator attributes client.secret
 
 -- A reply says that the entry that the datagram requests was added. It is not too old.
-abbrev pub RepliesWithin : Option ℕ → List Client → List ℕ → List ℕ → ℕ → List ℕ → Effect
+abbrev pub RepliesWithin : Option ℕ → ClientsFacts → List ℕ → List ℕ → ℕ → List ℕ → Effect
     → Type 0
 RepliesWithin oldest clients source bytes moment octets effect =
     (asked : Entry) × (reply : IsReplyFor clients source bytes moment asked octets)
@@ -41,7 +42,7 @@ Fails oldest attributes asked effect =
 -- A drop for the balance says that the entry was refused. One for the book says that the store or
 -- an allocation failed, one for its age that it is too old. Any other names the first rule that is
 -- broken. For the age or a rule the book was not called.
-abbrev pub DropsWithin : Option ℕ → List Client → List ℕ → List ℕ → ℕ → Reason → Effect → Type 0
+abbrev pub DropsWithin : Option ℕ → ClientsFacts → List ℕ → List ℕ → ℕ → Reason → Effect → Type 0
 DropsWithin oldest clients source bytes moment BalanceLimit effect =
     (asked : Entry) × (asks : RequestAsksFor clients source bytes moment asked)
     × (¬ IsTooOld oldest asks.attributes asked) × ((balance : ℤ) × (effect ≡ limited asked balance))
@@ -55,7 +56,7 @@ DropsWithin oldest clients source bytes moment reason effect =
 
 -- A datagram may be answered so, and has this effect. The array then holds these octets. A report
 -- may have waited for at most so many seconds, if that is limited.
-abbrev pub AnswersWithin : Option ℕ → List Client → List ℕ → List ℕ → ℕ → List ℕ → Outcome → Effect
+abbrev pub AnswersWithin : Option ℕ → ClientsFacts → List ℕ → List ℕ → ℕ → List ℕ → Outcome → Effect
     → Type 0
 AnswersWithin oldest clients source bytes moment array (Reply size) effect =
     RepliesWithin oldest clients source bytes moment (take size array) effect
@@ -63,7 +64,7 @@ AnswersWithin oldest clients source bytes moment array (Drop reason) effect =
     DropsWithin oldest clients source bytes moment reason effect
 
 -- a datagram may be answered so, with a report of any age
-abbrev pub Answers : List Client → List ℕ → List ℕ → ℕ → List ℕ → Outcome → Effect → Type 0
+abbrev pub Answers : ClientsFacts → List ℕ → List ℕ → ℕ → List ℕ → Outcome → Effect → Type 0
 Answers = AnswersWithin None
 
 -- past the reply the array is as it was

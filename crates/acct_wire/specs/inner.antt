@@ -1,2 +1,3 @@
 -- What private functions and proofs need, and no public contract reaches.
 pub mod Datagrams
+pub mod Hearing

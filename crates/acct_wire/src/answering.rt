@@ -7,6 +7,7 @@ ghost use Rattle.acct_wire.specs.Datagrams.{IsRequest, BreaksFirst, RequestAsks}
 ghost use Rattle.acct_wire.specs.Datagrams.{IsTooOld};
 ghost use Rattle.acct_wire.specs.inner.Datagrams.{SpellsEntry, reason_of as reason_in};
 ghost use Rattle.acct_wire.specs.inner.Datagrams.{RefusesAs, IsDropped};
+ghost use Rattle.acct_wire.specs.inner.Hearing.{entry_in};
 ghost use Rattle.acct_wire.specs.Outcomes.{Answers, AnswersWithin, Written};
 
 use crate::client::{Client, Clients};
@@ -122,7 +123,7 @@ fn requested<'c, 'b>(
         Ok(packet) => packet,
         Err(reason) => return Err(reason),
     };
-    let entry = match asked_of(alloc, client.name.as_str(), &packet, datagram.moment) {
+    let entry = match asked_of(alloc, clients, client, &packet, datagram.moment) {
         Ok(entry) => entry,
         Err(reason) => return Err(reason),
     };
@@ -180,15 +181,47 @@ fn request_in<'b>(secret: &[u8], bytes: &'b [u8]) -> Result<Packet<'b>, Reason>
     }
 }
 
-// The entry that a request spells.
-fn asked_of(alloc: Global, name: &str, packet: &Packet<'_>, moment: u64) -> Result<Entry, Reason>
+// The entry that a request spells, as the site hears the client.
+fn asked_of(
+    alloc: Global,
+    clients: &Clients,
+    client: &Client,
+    packet: &Packet<'_>,
+    moment: u64,
+) -> Result<Entry, Reason>
     requires { moment < 2 ^ 53 }
-    ensures asked { IfOk result (SpellsEntry name.now packet.now.attributes moment) }
+    ensures asked { IfOk result (SpellsEntry clients.now.stamping client.now.name
+        packet.now.attributes moment) }
     ensures refused { IfErr result (RefusesAs packet.now.attributes) }
 {
+    let name = client.name.as_str();
     match entry_of(alloc, name, packet, moment) {
-        Ok(entry) => Ok(entry),
+        Ok(entry) => heard(alloc, clients, name, packet, entry),
         Err(error) => Err(reason_of(error)),
+    }
+}
+
+// The entry of a client's packet, as the site hears the client.
+fn heard(
+    alloc: Global,
+    clients: &Clients,
+    name: &str,
+    packet: &Packet<'_>,
+    entry: Entry,
+) -> Result<Entry, Reason>
+    ensures heard { IfOk result (λ heard. heard
+        ≡ entry_in clients.now.stamping name.now packet.now.attributes entry) }
+    ensures memory { IfErr result (λ reason. reason ≡ Reason.Unavailable) }
+{
+    let Some(stamping) = clients.stamping() else {
+        return Ok(entry);
+    };
+    let Some(client) = stamping.called(name) else {
+        return Ok(entry);
+    };
+    match client.hear(alloc, name, &stamping.secrets, packet, entry) {
+        Ok(entry) => Ok(entry),
+        Err(_) => Err(Reason::Unavailable),
     }
 }
 

@@ -6,6 +6,7 @@ ghost use Rattle.acct_model.specs.Faults.{fault_or};
 ghost use Rattle.acct_wire.specs.Clients.{has_name, has_address, client_at, client_named};
 ghost use Rattle.acct_wire.specs.ClientFaults.{client_fault};
 
+use crate::hearing::Stamping;
 use acct_model::{Octets, Text};
 use std::alloc::Global;
 use std::marker::Model;
@@ -31,26 +32,30 @@ impl Drop for Client {
     }
 }
 
-/// Clients of which no two share a name or an address.
+/// Clients of which no two share a name or an address, and how those of them are heard whose logins
+/// are stamped.
 pub struct Clients {
     clients: Vec<Client>,
+    stamping: Option<Stamping>,
 }
 
 impl Drop for Clients {
     fn drop(self) {
-        let Clients { clients: _ } = self;
+        let Clients {
+            clients: _,
+            stamping: _,
+        } = self;
     }
 }
 
 impl Model for Clients {
-    ghost use Rattle.std.specs.Prelude.{List};
-    ghost use Rattle.acct_wire.specs.declared.client.Client.{Client};
+    ghost use Rattle.acct_wire.specs.Clients.{ClientsFacts};
 
-    ghost Value = { List Client };
+    ghost Value = { ClientsFacts };
 
     ghost use Rattle.acct_wire.specs.ClientFaults.{AreClients};
 
-    ghost view = { λ c. c.clients.items };
+    ghost view = { λ c. record { list = c.clients.items; stamping = c.stamping } };
 
     ghost invariant = { λ c. AreClients c.clients.items };
 }
@@ -74,20 +79,23 @@ impl Clients {
 
     /// No clients. It takes no memory.
     pub fn none(alloc: Global) -> Clients
-        ensures { result ≡ [] }
+        ensures { result ≡ record { list = []; stamping = None } }
     {
         Clients {
             clients: Vec::new(alloc),
+            stamping: None,
         }
     }
 
-    /// The clients as they are given, if they have no fault. It takes no memory.
+    /// The clients as they are given, if they have no fault. The logins of none are stamped. It takes
+    /// no memory.
     ///
     /// # Errors
     ///
     /// The first fault: each client in its turn for `TwiceNamed` and then for `TwiceAddressed`.
     pub fn new(list: Vec<Client>) -> Result<Clients, ClientError>
-        ensures kept { IfOk result (λ kept. kept ≡ list.items) }
+        ensures kept { IfOk result (λ kept.
+            kept ≡ record { list = list.items; stamping = None }) }
         ensures faultless { OnOk result (clients_fault list.items ≡ None) }
         ensures fault { IfErr result (λ fault. clients_fault list.items ≡ Some fault) }
     {
@@ -96,7 +104,21 @@ impl Clients {
                 return Err(fault);
             }
         }
-        Ok(Clients { clients: list })
+        Ok(Clients {
+            clients: list,
+            stamping: None,
+        })
+    }
+
+    /// The same clients, heard so. It takes no memory.
+    pub fn heard_by(self, stamping: Option<Stamping>) -> Clients
+        ensures { result ≡ record { list = self.list; stamping = stamping } }
+    {
+        let Clients {
+            clients,
+            stamping: _,
+        } = self;
+        Clients { clients, stamping }
     }
 
     /// Puts a client at the end, if it has no fault among those before it. It is compared with each
@@ -107,10 +129,11 @@ impl Clients {
     /// The first of `TwiceNamed` and `TwiceAddressed` that holds, and `Memory` only if neither
     /// does. The clients are then as before.
     pub fn push(&mut self, client: Client) -> Result<(), ClientError>
-        ensures pushed { OnOk result (self.new ≡ self.old ++ client ∷ []) }
-        ensures faultless { OnOk result (client_fault self.old client ≡ None) }
+        ensures pushed { OnOk result
+            (self.new ≡ record self.old { list = self.old.list ++ client ∷ [] }) }
+        ensures faultless { OnOk result (client_fault self.old.list client ≡ None) }
         ensures refused { IfErr result (λ error.
-            error ≡ fault_or ClientError.Memory (client_fault self.old client)) }
+            error ≡ fault_or ClientError.Memory (client_fault self.old.list client)) }
         ensures unchanged { OnErr result (self.new ≡ self.old) }
     {
         if let Some(fault) = fault_behind(&self.clients, &client) {
@@ -124,14 +147,21 @@ impl Clients {
 
     /// The clients in the order in which they were given.
     pub fn list(&self) -> &[Client]
-        ensures { result.now ≡ self.now }
+        ensures { result.now ≡ self.now.list }
     {
         &self.clients
     }
 
+    /// How the site hears those of them whose logins are stamped, if there are any.
+    pub fn stamping(&self) -> Option<&Stamping>
+        ensures { option_copied result ≡ self.now.stamping }
+    {
+        self.stamping.as_ref()
+    }
+
     /// The client of this name. It goes through the clients once.
     pub fn named(&self, name: &str) -> Option<&Client>
-        ensures { option_copied result ≡ client_named name.now self.now }
+        ensures { option_copied result ≡ client_named name.now self.now.list }
     {
         for client in &self.clients {
             if client.name.as_str() == name {
@@ -143,7 +173,7 @@ impl Clients {
 
     /// The client that sends from this address. It goes through the clients once.
     pub(crate) fn at(&self, address: [u8; 4]) -> Option<&Client>
-        ensures { option_copied result ≡ client_at address self.now }
+        ensures { option_copied result ≡ client_at address self.now.list }
     {
         for client in &self.clients {
             if client.address == address {

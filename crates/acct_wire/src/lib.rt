@@ -10,16 +10,20 @@
 //!    (RFC 2866, section 4). Writing it takes no memory.
 //! 4. An entry that would take a balance out of range is dropped (12), and so is one for which the
 //!    book or an allocation fails (13). Nothing has changed then, if the book is still open.
-//! 5. A report may be dropped for its age (14), before the book is called (`answer_within`).
+//! 5. Of a client whose logins are stamped, a stamp says who pays for a report and by which plan
+//!    (`hearing`).
+//! 6. A report may be dropped for its age (14), before the book is called (`answer_within`).
 #![tactic(auto)]
 
 mod answering;
 mod client;
 mod datagram;
+mod hearing;
 pub mod laws;
 mod reason;
 
 pub use answering::{LONGEST_PACKET, Outcome, answer, answer_within};
 pub use client::{Client, ClientError, Clients};
 pub use datagram::Datagram;
+pub use hearing::{StampedClient, Stamping};
 pub use reason::Reason;

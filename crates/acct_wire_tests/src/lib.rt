@@ -15,3 +15,5 @@ mod names;
 mod reports;
 #[cfg(test)]
 mod site;
+#[cfg(test)]
+mod stamped;

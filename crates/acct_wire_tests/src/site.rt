@@ -3,7 +3,7 @@ use acct_book::{Book, Key, MemBook, Row};
 use acct_book_fakes::FailingBook;
 use acct_model::{Octets, Plans, Text};
 use acct_site::{sample_clients, sample_plans};
-use acct_wire::{Clients, Datagram, Outcome, answer, answer_within};
+use acct_wire::{Clients, Datagram, Outcome, Stamping, answer, answer_within};
 use foreign_packets::SECRET;
 use radius_codec::{sign_request, write_request};
 use std::alloc::Global;
@@ -58,6 +58,13 @@ impl Site {
             alloc,
             clients,
         })
+    }
+
+    /// The site over an empty book, if `ap1` is heard so.
+    pub(crate) fn hearing(alloc: Global, stamping: Stamping) -> Result<Site, Fail> {
+        let mut site = Site::new(alloc)?;
+        site.clients = sample_clients(alloc)?.heard_by(Some(stamping));
+        Ok(site)
     }
 
     /// Answers a datagram, by the plain call if a report may have any age.
@@ -119,8 +126,13 @@ impl Site {
 
     /// The row of a session of `ap1`.
     pub(crate) fn row(&mut self, session: &[u8]) -> Result<Option<Row>, Fail> {
+        self.row_of("ap1", session)
+    }
+
+    /// The row of a session of a client.
+    pub(crate) fn row_of(&mut self, client: &str, session: &[u8]) -> Result<Option<Row>, Fail> {
         let key = Key {
-            client: Text::from_str(self.alloc, "ap1")?,
+            client: Text::from_str(self.alloc, client)?,
             session: Octets::from_slice(self.alloc, session)?,
         };
         Ok(self.book.book.session(&key)?)

@@ -1,5 +1,6 @@
 use Rattle.acct_model.specs.declared.shown.NoMemory.{NoMemory}
-use Rattle.acct_desk.specs.Asks.{refused, me, overruns, credit}
+use Rattle.acct_desk.specs.Asks.{refused, me, overruns, look, login, credit}
+use Rattle.acct_desk.specs.inner.LoginView.{login_view}
 use Rattle.acct_desk.proofs.HandleLemmas.{mute_handles, refused_handles}
 use Rattle.acct_desk.proofs.handling.handle.Goals as goal
 
@@ -33,6 +34,13 @@ returns-in-Overruns g c = (
   overruns,
   rw c.in-Overruns.is at c.in-Ok.ensures.asks,
   c.tell_overruns.ensures c.args.plans.now,
+)
+
+pub returns-in-Login : goal.returns-in-Login
+returns-in-Login g c = (
+  look (login (login_view c.in-Login.login)),
+  rw c.in-Login.is at c.in-Ok.ensures.asks,
+  c.tell_login.ensures c.args.plans.now,
 )
 
 pub returns-in-Credit : goal.returns-in-Credit

@@ -54,7 +54,7 @@ returns-in-None g c =
     walked_all (IsNext octets_cmp balances) (λ e. e.0) None accounts to (inv.walked.1 was) last
     in
     let walk = entries_walk octets_cmp balances None accounts met in
-    (accounts, accounts_told plans (b.content old) history accounts st walk, refl))
+    (refl, (accounts, accounts_told plans (b.content old) history accounts st walk, refl)))
 
 pub loop-preserved : goal.loop-preserved
 loop-preserved g c =

@@ -20,8 +20,11 @@ returns g c =
     c.in_ok-rows.ensures.reads.answers (rw c.deref.ensures.value at c.sessions_value.ensures)
     (sessions_plain plans account rows)
     (λ o history st. (
-      rows,
-      rows_told plans (b.content c.args.book.now) history account rows st
-          (c.in_ok-rows.ensures.found o),
       refl,
+      (
+        rows,
+        rows_told plans (b.content c.args.book.now) history account rows st
+            (c.in_ok-rows.ensures.found o),
+        refl,
+      ),
     ))

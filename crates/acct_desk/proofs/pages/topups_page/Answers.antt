@@ -18,8 +18,11 @@ returns g c =
     c.in_ok-topups.ensures.reads.answers (rw c.deref.ensures.value at c.topups_value.ensures)
     (topups_plain account topups)
     (λ o history st. (
-      topups,
-      topups_told plans (b.content c.args.book.now) history account topups
-          st (c.in_ok-topups.ensures.found o),
       refl,
+      (
+        topups,
+        topups_told plans (b.content c.args.book.now) history account topups
+            st (c.in_ok-topups.ensures.found o),
+        refl,
+      ),
     ))

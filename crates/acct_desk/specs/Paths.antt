@@ -1,0 +1,42 @@
+-- Paths by their segments.
+use Rattle.std.specs.Prelude.{ℕ, ◌==◌, List, [], ◌∷◌, length, take, drop, codes, bytes_eq}
+use Rattle.std.specs.Prelude.{if◌then◌else◌, Option, Some, None, option_map, option_and_then}
+
+-- an octet in front of the first segment
+abbrev pub in_front : ℕ → List (List ℕ) → List (List ℕ)
+in_front octet [] = (octet ∷ []) ∷ []
+in_front octet (segment ∷ more) = (octet ∷ segment) ∷ more
+
+-- the segments of octets: what their slashes part
+abbrev pub segments : List ℕ → List (List ℕ)
+segments [] = [] ∷ []
+segments (octet ∷ rest) =
+    if octet == 47 then [] ∷ segments rest else in_front octet (segments rest)
+
+-- what a path has behind its beginning, if it begins so
+abbrev pub behind : List ℕ → List ℕ → Option (List ℕ)
+behind start path =
+    if bytes_eq (take (length start) path) start then Some (drop (length start) path) else None
+
+-- ---- logins
+
+-- the segments of a login's path, as they stand in it: the last two are a station and seconds
+pub record LoginPath : Type 0 where
+  pub account : List ℕ
+  pub class : List ℕ
+  pub login : List ℕ
+  pub heard : Option (List ℕ × List ℕ)
+
+-- ACCOUNT/CLASS, ACCOUNT/CLASS/LOGIN or ACCOUNT/CLASS/LOGIN/STATION/SECONDS
+abbrev pub login_segments : List (List ℕ) → Option LoginPath
+login_segments (account ∷ class ∷ []) =
+    Some (record { account = account; class = class; login = []; heard = None })
+login_segments (account ∷ class ∷ login ∷ []) =
+    Some (record { account = account; class = class; login = login; heard = None })
+login_segments (account ∷ class ∷ login ∷ station ∷ seconds ∷ []) =
+    Some (record { account = account; class = class; login = login; heard = Some (station, seconds) })
+login_segments other = None
+
+-- the login at a path
+abbrev pub login_path : List ℕ → Option LoginPath
+login_path path = option_and_then login_segments (option_map segments (behind (codes "/logins/") path))

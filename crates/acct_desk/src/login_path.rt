@@ -1,0 +1,77 @@
+//! The path of a login.
+ghost use Rattle.std.specs.Prelude.{◌≡◌, option_map};
+ghost use Rattle.acct_desk.specs.Paths as spec;
+ghost use Rattle.acct_desk.specs.inner.Cut.{cut};
+ghost use Rattle.acct_desk.specs.inner.LoginView.{path_view};
+
+// The beginning of the path.
+const START: &[u8] = b"/logins/";
+
+// The segments of a login's path, as they stand in it.
+#[derive(Clone, Copy)]
+pub(crate) struct LoginPath<'p> {
+    pub account: &'p [u8],
+    pub class: &'p [u8],
+    pub login: &'p [u8],
+    // A station, and seconds.
+    pub heard: Option<(&'p [u8], &'p [u8])>,
+}
+
+// The login at a path.
+pub(crate) fn login_path(path: &[u8]) -> Option<LoginPath<'_>>
+    ensures { option_map path_view result ≡ spec.login_path path.now }
+{
+    login_segments(behind(START, path)?)
+}
+
+// What a path has behind its beginning, if it begins so.
+fn behind<'p>(start: &[u8], path: &'p [u8]) -> Option<&'p [u8]>
+    ensures { option_map (λ rest. rest.now) result ≡ spec.behind start.now path.now }
+{
+    path.strip_prefix(start)
+}
+
+// The login that segments name.
+fn login_segments(path: &[u8]) -> Option<LoginPath<'_>>
+    ensures { option_map path_view result ≡ spec.login_segments (spec.segments path.now) }
+{
+    let (account, rest) = cut(path)?;
+    let Some((class, rest)) = cut(rest) else {
+        return Some(LoginPath {
+            account,
+            class: rest,
+            login: b"",
+            heard: None,
+        });
+    };
+    let Some((login, rest)) = cut(rest) else {
+        return Some(LoginPath {
+            account,
+            class,
+            login: rest,
+            heard: None,
+        });
+    };
+    let (station, seconds) = cut(rest)?;
+    match cut(seconds) {
+        Some(_) => None,
+        None => Some(LoginPath {
+            account,
+            class,
+            login,
+            heard: Some((station, seconds)),
+        }),
+    }
+}
+
+// The octets before the first slash, and those behind it.
+fn cut(octets: &[u8]) -> Option<(&[u8], &[u8])>
+    ensures { option_map (λ parts. (parts.0.now, parts.1.now)) result ≡ cut octets.now }
+{
+    for i in 0..octets.len() {
+        if octets[i] == b'/' {
+            return Some((&octets[..i], &octets[i + 1..]));
+        }
+    }
+    None
+}
