@@ -5,6 +5,8 @@ use Rattle.std.specs.Fmt.{signed_decimal}
 use Rattle.csv.specs.Writing.{default_writer, row_text, writer_setup, fields_written, has_written}
 use Rattle.csv.specs.declared.writer.Writer.{Writer}
 use Rattle.acct_model.specs.declared.plan.Plan.{Plan}
+use Rattle.acct_model.specs.declared.plan.Count.{Count}
+use Rattle.acct_model.specs.declared.plan.Count.TheVariants.{Both, Input, Output}
 use Rattle.acct_model.specs.Shown.{shown, shown_address}
 use Rattle.acct_model.specs.Vouchers.{TopUpFacts}
 use Rattle.acct_book.specs.Row.{RowFacts, state_text}
@@ -67,6 +69,21 @@ account_line Balances account balance =
     line (shown account ∷ signed_decimal balance ∷ decimal (overrun_of balance) ∷ [])
 account_line Overruns account balance =
     if overrun_of balance == 0 then [] else line (shown account ∷ decimal (overrun_of balance) ∷ [])
+
+-- ---- plans
+
+abbrev pub plan_header : Fields
+plan_header = codes "class" ∷ codes "block" ∷ codes "unit" ∷ codes "count" ∷ []
+
+-- what a plan counts, as a configuration names it
+abbrev pub count_text : Count → List ℕ
+count_text Both = codes "both"
+count_text Input = codes "in"
+count_text Output = codes "out"
+
+abbrev pub plan_fields : Plan → Fields
+plan_fields plan = shown plan.class ∷ decimal plan.block ∷ decimal plan.unit
+    ∷ count_text plan.count ∷ []
 
 -- ---- a whole export
 

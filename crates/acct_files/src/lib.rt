@@ -6,7 +6,7 @@
 //! 2. Records are numbered from 1, the header being 1. Only the list of refused records grows with
 //! the text.
 //! 3. An export writes a header and a line for each session, account or voucher of a book, and
-//! changes nothing in it.
+//! changes nothing in it. So are its plans written.
 #![tactic(auto)]
 
 mod account_lines;
@@ -15,6 +15,7 @@ mod csv_lines;
 mod import_report;
 mod importing;
 pub mod laws;
+mod plan_lines;
 mod refused_list;
 mod session_lines;
 mod topup_lines;
@@ -26,6 +27,7 @@ pub use capped::Capped;
 pub use csv_lines::ExportError;
 pub use import_report::{Cause, ImportReport, Outcome, Refused, Stopped};
 pub use importing::import;
+pub use plan_lines::export_plans;
 pub use refused_list::RefusedList;
 pub use session_lines::export_sessions;
 pub use topup_lines::export_topups;

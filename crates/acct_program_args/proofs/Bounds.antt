@@ -44,6 +44,7 @@ of_a_book name rows of_book.Import asked = tt
 of_a_book name rows (of_book.Export what) asked = tt
 of_a_book name rows of_book.Migrate asked = tt
 of_a_book name rows of_book.AddPlans asked = tt
+of_a_book name rows of_book.ListPlans asked = tt
 of_a_book name rows (of_book.Forward carrying) asked = (
   within rows carrying.cutoff asked.1.0,
   silence rows carrying.silent asked.1.1,

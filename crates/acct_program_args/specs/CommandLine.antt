@@ -126,6 +126,10 @@ opening_app name = opening (book_app name)
 abbrev pub export_app : App
 export_app = with_rule (opening_app (codes "export")) (required what_rule)
 
+-- `plans --config FILE --db FILE [--explain] [--lose-damaged-commits] [--list]`
+abbrev pub plans_app : App
+plans_app = with_rule (opening_app (codes "plans")) (flag_rule (codes "list"))
+
 -- a command with these options, from the first on
 abbrev pub with_rules : App → List Rule → App
 with_rules a [] = a
@@ -176,5 +180,5 @@ with_commands a (c ∷ cs) = with_commands (with_subcommand a c.top) cs
 abbrev pub app : App
 app = with_commands bare_app
     (feed_app ∷ check_app ∷ init_app ∷ serve_app ∷ opening_app (codes "import")
-    ∷ export_app ∷ opening_app (codes "migrate") ∷ opening_app (codes "plans") ∷ forward_app
+    ∷ export_app ∷ opening_app (codes "migrate") ∷ plans_app ∷ forward_app
     ∷ [])

@@ -150,7 +150,10 @@ WordsAskOfBook name rows (of_book.Serve serving) = (name ≡ codes "serve") × I
 WordsAskOfBook name rows of_book.Import = name ≡ codes "import"
 WordsAskOfBook name rows (of_book.Export what) = (name ≡ codes "export") × IsExport rows what
 WordsAskOfBook name rows of_book.Migrate = name ≡ codes "migrate"
-WordsAskOfBook name rows of_book.AddPlans = name ≡ codes "plans"
+WordsAskOfBook name rows of_book.AddPlans =
+    (name ≡ codes "plans") × IsFlag (codes "list") rows false
+WordsAskOfBook name rows of_book.ListPlans =
+    (name ≡ codes "plans") × IsFlag (codes "list") rows true
 WordsAskOfBook name rows (of_book.Forward carrying) =
     (name ≡ codes "forward") × IsCarrying rows carrying
 
@@ -199,6 +202,7 @@ AreBounded of_book.Import = ⊤
 AreBounded (of_book.Export what) = ⊤
 AreBounded of_book.Migrate = ⊤
 AreBounded of_book.AddPlans = ⊤
+AreBounded of_book.ListPlans = ⊤
 AreBounded (of_book.Forward carrying) =
     IsWithin carrying.cutoff × IfSome carrying.silent AreDays
     × IfSome carrying.oldest_report (λ days. days ≤ 36500)

@@ -69,6 +69,14 @@ pub fn page_sums_flag<'a>(alloc: Global) -> Arg<'a>
     )
 }
 
+/// `--list`
+pub fn list_flag<'a>(alloc: Global) -> Arg<'a>
+    ensures rule { rule_of result ≡ flag_rule (codes "list") }
+    ensures local { result.global ≡ false }
+{
+    flag(alloc, "list").help("Writes the plans that the book keeps as CSV, and adds none")
+}
+
 /// `--bind A.B.C.D`
 pub fn bind_option<'a>(alloc: Global) -> Arg<'a>
     ensures rule { rule_of result ≡ bind_rule }

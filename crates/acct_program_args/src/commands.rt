@@ -7,13 +7,14 @@ ghost use Rattle.clap.specs.Words.{App, Rule, app_of, rule_of, new_app, with_rul
 ghost use Rattle.acct_program_args.specs.CommandLine.{app, bare_app, feed_app, check_app, book_app};
 ghost use Rattle.acct_program_args.specs.CommandLine.{configured_app, serve_app, export_app};
 ghost use Rattle.acct_program_args.specs.CommandLine.{forward_app, init_app, opening_app};
+ghost use Rattle.acct_program_args.specs.CommandLine.{plans_app};
 ghost use Rattle.acct_program_args.specs.inner.Made.{IsMade};
 
 use crate::args::{
     at_option, audit_option, balances_every_option, balances_option, before_option, bind_option,
     config_option, database_option, desk_bind_option, dry_run_flag, explain_flag, keep_option,
-    lose_flag, needed, oldest_option, page_sums_flag, port_option, quiet_flag, silent_option,
-    status_option, sync_option, turns_option, what_option, yes_flag,
+    list_flag, lose_flag, needed, oldest_option, page_sums_flag, port_option, quiet_flag,
+    silent_option, status_option, sync_option, turns_option, what_option, yes_flag,
 };
 use clap::{Arg, Command};
 use std::alloc::{AllocError, Global};
@@ -158,10 +159,10 @@ fn migrate_command<'a>(alloc: Global) -> Result<Command<'a>, AllocError>
 }
 
 fn plans_command<'a>(alloc: Global) -> Result<Command<'a>, AllocError>
-    ensures { IsMade (opening_app (codes "plans")) result }
+    ensures { IsMade plans_app result }
 {
     let about = "Adds the plans of a configuration that a book does not keep yet";
-    opening_command(alloc, "plans", about)
+    with_option(opening_command(alloc, "plans", about), list_flag(alloc))
 }
 
 fn forward_command<'a>(alloc: Global) -> Result<Command<'a>, AllocError>

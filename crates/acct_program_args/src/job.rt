@@ -92,6 +92,8 @@ pub enum BookJob {
     Migrate,
     /// Adds the plans that it does not keep yet.
     AddPlans,
+    /// Writes the plans that it keeps as CSV.
+    ListPlans,
     /// Carries these old sessions forward.
     Forward(Carrying),
 }
@@ -105,6 +107,7 @@ impl Drop for BookJob {
             BookJob::Export(_) => {}
             BookJob::Migrate => {}
             BookJob::AddPlans => {}
+            BookJob::ListPlans => {}
             BookJob::Forward(_) => {}
         }
     }

@@ -116,9 +116,20 @@ fn asked_of_book(
         "import" => Ok(Some(BookJob::Import)),
         "export" => Ok(asked_to_export(options)),
         "migrate" => Ok(Some(BookJob::Migrate)),
-        "plans" => Ok(Some(BookJob::AddPlans)),
+        "plans" => Ok(Some(asked_of_plans(options))),
         "forward" => asked_to_carry(alloc, options),
         _ => Ok(None),
+    }
+}
+
+// What the options of `plans` ask for.
+fn asked_of_plans(options: &ArgMatches<'_>) -> BookJob
+    ensures { WordsAskOfBook (codes "plans") (rows_of (found_of options.now)) result }
+{
+    if flag_option(options, "list") {
+        BookJob::ListPlans
+    } else {
+        BookJob::AddPlans
     }
 }
 

@@ -59,9 +59,9 @@ IsUnchecked text told = IsNoConfig text told ⊎ (told ≡ fault.CannotWrite)
 -- `ok: C clients, P plans, K keys`
 abbrev pub sizes_line : Config → List ℕ
 sizes_line config =
-    codes "ok: " ++ decimal (length config.clients) ++ codes " clients, "
+    codes "ok: " ++ decimal (length config.clients.list) ++ codes " clients, "
     ++ decimal (length config.plans) ++ codes " plans, "
-    ++ decimal (length config.keys) ++ codes " keys" ++ 10 ∷ []
+    ++ decimal (length config.keys.list) ++ codes " keys" ++ 10 ∷ []
 
 -- The output got the sizes of the configuration that a text spells, if the text is known, and
 -- nothing else.

@@ -10,6 +10,7 @@ use Rattle.acct_book.specs.Row.{RowFacts}
 use Rattle.acct_book.specs.Walk.{AreAllPast}
 use Rattle.acct_files.specs.Exporting.{export_text, line, session_header, session_fields}
 use Rattle.acct_files.specs.Exporting.{topup_header, topup_fields, account_header, account_line}
+use Rattle.acct_files.specs.Exporting.{plan_header, plan_fields}
 use Rattle.acct_files.specs.declared.account_lines.AccountExport.{AccountExport}
 use Rattle.acct_files.specs.declared.account_lines.AccountExport.TheVariants as which
 use Rattle.acct_program_args.specs.declared.job.Export.{Export}
@@ -22,6 +23,10 @@ use Rattle.acct_program_commands.specs.declared.fault.StoreFault.TheVariants as 
 abbrev pub IsExportFault : Fault → Type 0
 IsExportFault told = (told ≡ fault.Store store.Unavailable) ⊎ (told ≡ fault.StoreMemory)
     ⊎ (told ≡ fault.CannotWrite)
+
+-- a header, and a line for each plan
+abbrev pub plans_text : List Plan → List ℕ
+plans_text plans = export_text plan_header (λ plan. line (plan_fields plan)) plans
 
 -- What is written of a content: a header, and a line for each member, once and in order. `told`
 -- means that the book is open, so that its content is known.

@@ -71,9 +71,9 @@ IsChange own in_force plan Missing =
 -- how many clients, plans and keys a configuration has
 abbrev pub sizes_of : Config → Sizes
 sizes_of site = record {
-  clients = length site.clients;
+  clients = length site.clients.list;
   plans = length site.plans;
-  keys = length site.keys;
+  keys = length site.keys.list;
 }
 
 -- `config: read again: C clients, P plans, K keys`

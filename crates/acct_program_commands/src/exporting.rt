@@ -1,12 +1,15 @@
-//! `export`: the book as CSV.
+//! `export`: the book as CSV. So are the plans that it keeps.
 ghost use Rattle.std.specs.Prelude.{◌≡◌, IfOk, IfErr};
+ghost use Rattle.std.specs.Io.KnownBytes.{Appends};
 ghost use Rattle.acct_book.specs.Step.{Looks};
-ghost use Rattle.acct_program_commands.specs.Exports.{Exports, IsExportFault};
+ghost use Rattle.acct_program_commands.specs.Exports.{Exports, IsExportFault, plans_text};
 ghost use Rattle.acct_program_commands.specs.inner.Stops.{export_fault};
 
 use crate::fault::{Fault, StoreFault};
 use acct_book::Book;
-use acct_files::{ExportError, export_balances, export_overruns, export_sessions, export_topups};
+use acct_files::{
+    ExportError, export_balances, export_overruns, export_plans, export_sessions, export_topups,
+};
 use acct_model::Plans;
 use acct_program_args::Export;
 use std::alloc::Global;
@@ -37,6 +40,25 @@ pub fn run_export<B: Book, W: Write + Drop>(
         Export::Overruns => export_overruns(alloc, book, output),
     };
     match written {
+        Ok(mut writer) => {
+            writer.flush()?;
+            Ok(writer)
+        }
+        Err(error) => Err(fault_of(error)),
+    }
+}
+
+/// Writes plans, and returns the writer, flushed.
+///
+/// # Errors
+///
+/// `StoreMemory` if an allocation fails, `CannotWrite`.
+pub fn write_plans<W: Write + Drop>(alloc: Global, plans: &Plans, output: W) -> Result<W, Fault>
+    ensures text { IfOk result (λ writer. Appends (W.contents output) (W.contents writer)
+        (plans_text plans.now)) }
+    ensures why { IfErr result IsExportFault }
+{
+    match export_plans(alloc, plans.list(), output) {
         Ok(mut writer) => {
             writer.flush()?;
             Ok(writer)

@@ -35,7 +35,7 @@ pub use book_names::BookNames;
 pub use check::{check_from, run_check, write_sizes};
 pub use config_file::{config_from, config_in, read_config};
 pub use drop_log::{DropLog, Pair};
-pub use exporting::run_export;
+pub use exporting::{run_export, write_plans};
 pub use fault::{Fault, StoreFault, end};
 pub use figures::{Figures, State, write_figures};
 pub use file_changes::{MakesFiles, ReplacesFiles};

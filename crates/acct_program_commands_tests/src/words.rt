@@ -84,7 +84,7 @@ fn reads_command_lines(rt: HostRuntime) -> Result<(), Fail> {
 // also its addresses, the desk's, both ports, turns, syncs, what it prints, the two files, and how
 // many days old a report may be. A plus if more is printed of a fault, `loses` if a damaged log is
 // no fault. None if they name no job.
-static ORDERS: [(&str, Option<&str>); 69] = [
+static ORDERS: [(&str, Option<&str>); 71] = [
     ("feed", Some("feed none")),
     ("feed --config a", Some("feed a")),
     ("feed --explain", Some("feed none +")),
@@ -128,6 +128,8 @@ static ORDERS: [(&str, Option<&str>); 69] = [
     ("migrate --config a --db b --sync once", None),
     ("plans --config a --db b", Some("plans a b")),
     ("plans --config a --db b --explain", Some("plans a b +")),
+    ("plans --config a --list --db b", Some("list a b")),
+    ("export --config a --db b --list", None),
     (
         "plans --lose-damaged-commits --explain --config a --db b",
         Some("plans a b + loses"),
@@ -337,6 +339,7 @@ fn shown_book_job(alloc: Global, paths: &Paths, job: &BookJob) -> Result<String,
         }
         BookJob::Migrate => shown_paths(alloc, "migrate", paths),
         BookJob::AddPlans => shown_paths(alloc, "plans", paths),
+        BookJob::ListPlans => shown_paths(alloc, "list", paths),
         BookJob::Forward(carrying) => shown_carrying(alloc, paths, carrying),
     }
 }

@@ -72,6 +72,9 @@ fn finding_in<'d>(
         ConfigKind::TwiceClient | ConfigKind::TwicePlanned | ConfigKind::TwiceKeyed => {
             twice_in(text, kind, fields, tables, error.index)
         }
+        ConfigKind::NoStamp => Some(What::Said(
+            "the logins of this [[client]] are stamped, and there is no [stamp] with a secret",
+        )),
         _ => wrong_in(alloc, kind, fields, table, error.kind)?,
     };
     Ok(what.map(|what| Finding { line, what }))

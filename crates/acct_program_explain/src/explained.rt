@@ -1,7 +1,7 @@
 //! What is explained, and where it is written.
 use crate::config_faults::explain_config;
 use crate::files::{has_sums, why_unmade, why_unopened, why_unread};
-use crate::log_faults::{TO_DO, tell_damage, tell_lost};
+use crate::log_faults::{tell_damage, tell_lost};
 use crate::reading::octets_of;
 use acct_model::{LAST_MOMENT, Text};
 use acct_program_args::{
@@ -68,7 +68,7 @@ pub fn explain<R: ReadsFiles, E: Write>(
             loses_commits,
         } => {
             let is_told = tell_lost(runtime, alloc, file.as_str(), errors)
-                || (!loses_commits && tell_damage(runtime, alloc, file.as_str(), TO_DO, errors));
+                || (!loses_commits && tell_damage(runtime, alloc, file.as_str(), false, errors));
             if !is_told {
                 let why = why_unopened(runtime, alloc, file.as_str());
                 tell(file.as_str(), why, errors);
@@ -81,7 +81,7 @@ pub fn explain<R: ReadsFiles, E: Write>(
         }
         Explained::Unmade { file } => {
             let is_told = tell_lost(runtime, alloc, file.as_str(), errors)
-                || tell_damage(runtime, alloc, file.as_str(), "", errors);
+                || tell_damage(runtime, alloc, file.as_str(), true, errors);
             if !is_told {
                 let why = why_unmade(runtime, alloc, file.as_str());
                 tell(file.as_str(), why, errors);

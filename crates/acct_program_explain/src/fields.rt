@@ -34,7 +34,7 @@ pub(crate) struct Field {
 
 static CLIENT: Kind = Kind {
     table: "client",
-    known: "name, address and secret",
+    known: "name, address and secret, and perhaps stamped, proxy and plan",
     before: "[[client]]\n",
 };
 
@@ -46,11 +46,11 @@ static PLAN: Kind = Kind {
 
 static KEY: Kind = Kind {
     table: "key",
-    known: "token, and account or cashier",
+    known: "token, and account, cashier or logins",
     before: "[[plan]]\nclass = 'default'\nblock = 1\nunit = 0\n[[key]]\n",
 };
 
-static CLIENT_FIELDS: [Field; 3] = [
+static CLIENT_FIELDS: [Field; 6] = [
     Field {
         name: "name",
         rule: "1 to 32 of A-Z a-z 0-9 . - _ in quotes",
@@ -71,6 +71,27 @@ static CLIENT_FIELDS: [Field; 3] = [
         is_required: true,
         is_unique: false,
         others: "name = 'n'\naddress = '0.0.0.1'\n",
+    },
+    Field {
+        name: "stamped",
+        rule: "true or false, without quotes",
+        is_required: false,
+        is_unique: false,
+        others: "name = 'n'\naddress = '0.0.0.1'\nsecret = 's'\n",
+    },
+    Field {
+        name: "proxy",
+        rule: "true or false, without quotes, and true only with stamped = true",
+        is_required: false,
+        is_unique: false,
+        others: "name = 'n'\naddress = '0.0.0.1'\nsecret = 's'\n",
+    },
+    Field {
+        name: "plan",
+        rule: "1 to 253 octets in quotes, and only with stamped = true",
+        is_required: false,
+        is_unique: false,
+        others: "name = 'n'\naddress = '0.0.0.1'\nsecret = 's'\n",
     },
 ];
 
@@ -105,7 +126,7 @@ static PLAN_FIELDS: [Field; 4] = [
     },
 ];
 
-static KEY_FIELDS: [Field; 3] = [
+static KEY_FIELDS: [Field; 4] = [
     Field {
         name: "token",
         rule: "16 to 64 of A-Z a-z 0-9 - in quotes",
@@ -123,6 +144,13 @@ static KEY_FIELDS: [Field; 3] = [
     Field {
         name: "cashier",
         rule: "true, without quotes, where the key is the cashier's",
+        is_required: false,
+        is_unique: false,
+        others: "token = 'abcdefghijklmnop'\n",
+    },
+    Field {
+        name: "logins",
+        rule: "true, without quotes, where the key asks what a login may use",
         is_required: false,
         is_unique: false,
         others: "token = 'abcdefghijklmnop'\n",

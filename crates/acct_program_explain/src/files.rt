@@ -42,6 +42,9 @@ pub(crate) fn why_unopened<R: ReadsFiles>(runtime: &R, alloc: Global, file: &str
     match runtime.metadata(file) {
         Err(error) if is_missing(error.kind()) => "there is no such file, and init makes one",
         Err(error) => why_unseen(error.kind()),
+        Ok(found) if found.is_file() && found.len() == 0 => {
+            "it is an empty file, and init makes a book in it"
+        }
         Ok(found) if found.is_file() && found.len() < DATABASE_HEADER_OCTETS => {
             "it has fewer than 100 octets, so it is no book: move it away, and init makes one"
         }

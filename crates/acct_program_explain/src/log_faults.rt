@@ -4,18 +4,22 @@ use acct_sql_log::{Damage, damage_beside, has_lost_book, log_name};
 use std::alloc::Global;
 use std::io::Write;
 
-/// What is left to do about a book whose log is damaged.
-pub(crate) const TO_DO: &str = ": restore a copy, or give --lose-damaged-commits, which loses them";
+// What is left to do about a book whose log is damaged.
+const TO_DO: &str = ": restore a copy, or give --lose-damaged-commits, which loses them";
+// The same if the log shows no lost commit.
+const TO_GO_ON: &str = ": a killed sqlite3 leaves that, and so does a lost block: \
+    restore a copy, or give --lose-damaged-commits to go on";
 
 // If the log of a book is damaged, writes one line that says where, how many commits are lost by
-// that, and what to do.
+// that, and what to do, unless the book is to be made.
 pub(crate) fn tell_damage<R: ReadsFiles, E: Write>(
     runtime: &R,
     alloc: Global,
     file: &str,
-    to_do: &str,
+    is_new: bool,
     errors: &mut E,
 ) -> bool {
+    let (to_do, to_go_on) = if is_new { ("", "") } else { (TO_DO, TO_GO_ON) };
     let _ = match damage_beside(runtime, alloc, file) {
         // The caller finds why a log cannot be read.
         Ok(None) | Err(_) => return false,
@@ -23,6 +27,11 @@ pub(crate) fn tell_damage<R: ReadsFiles, E: Write>(
             errors,
             "explained: {file}: the header of its log is damaged, and each commit in it is \
              lost{to_do}"
+        ),
+        Ok(Some(Damage::Frame { frame, commits: 0 })) => writeln!(
+            errors,
+            "explained: {file}: frame {frame} of its log is damaged, and this log shows no lost \
+             commit{to_go_on}"
         ),
         Ok(Some(Damage::Frame { frame, commits: 1 })) => writeln!(
             errors,

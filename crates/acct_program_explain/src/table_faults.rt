@@ -8,12 +8,17 @@ use toml::{Table, Value};
 
 // The names of the arrays.
 const ARRAYS: [&str; 3] = ["client", "plan", "key"];
+// The name of the table of the secrets that sign stamps.
+const STAMP: &str = "stamp";
+// The names of a key that say who bears it.
+const BEARERS: [&str; 3] = ["account", "cashier", "logins"];
 
 // What is wrong with the text as a whole.
 pub(crate) fn top_finding(document: &Table, fault: ConfigKind) -> Option<Finding<'_>> {
     let what = match fault {
         ConfigKind::NoDefault => What::Said("no [[plan]] has the class default"),
         ConfigKind::BadShape => top_shape(document),
+        ConfigKind::BadStamp => What::Said("a secret of [stamp] has 16 to 64 octets"),
         _ => return None,
     };
     Some(Finding { line: None, what })
@@ -22,6 +27,12 @@ pub(crate) fn top_finding(document: &Table, fault: ConfigKind) -> Option<Finding
 // Which name of the text as a whole is wrong.
 fn top_shape(document: &Table) -> What<'_> {
     for (name, value) in document {
+        if name.as_str() == STAMP {
+            if let Some(what) = stamp_shape(value) {
+                return what;
+            }
+            continue;
+        }
         if !ARRAYS.contains(&name.as_str()) {
             return What::UnknownAtTop { name };
         }
@@ -30,6 +41,25 @@ fn top_shape(document: &Table) -> What<'_> {
         }
     }
     What::Said("1024 [[client]], 256 [[plan]] and 4096 [[key]] are the most")
+}
+
+// What is wrong with the shape of the stamp's table.
+fn stamp_shape(value: &Value) -> Option<What<'_>> {
+    let Some(table) = value.as_table() else {
+        return Some(What::Said("the stamp is one table, [stamp]"));
+    };
+    for (name, value) in table {
+        if name.as_str() != "secret" && name.as_str() != "old" {
+            return Some(What::Said("[stamp] has secret, perhaps old, and no other name"));
+        }
+        if !value.is_str() {
+            return Some(What::Said("a secret of [stamp] is a text in quotes"));
+        }
+    }
+    if !table.contains_key("secret") {
+        return Some(What::Said("[stamp] has no secret"));
+    }
+    None
 }
 
 // What is wrong with a table by itself, without regard to earlier ones.
@@ -75,17 +105,16 @@ fn wrong_names<'d>(kind: Kind, fields: &'static [Field], table: &'d Table) -> Op
     wrong_bearer(kind, table)
 }
 
-// What is wrong with a key that has both `account` and `cashier`, or neither.
+// What is wrong with a key that has none of the names of who bears it, or more than one.
 fn wrong_bearer<'d>(kind: Kind, table: &'d Table) -> Option<What<'d>> {
     if kind.table != "key" {
         return None;
     }
-    match (table.contains_key("account"), table.contains_key("cashier")) {
-        (true, true) => Some(What::Said(
-            "this [[key]] has both account and cashier, and is to have one",
-        )),
-        (false, false) => Some(What::Said("this [[key]] has neither account nor cashier")),
-        _ => None,
+    let named = BEARERS.iter().filter(|name| table.contains_key(name));
+    match named.count() {
+        0 => Some(What::Said("this [[key]] has none of account, cashier and logins")),
+        1 => None,
+        _ => Some(What::Said("this [[key]] has more than one of account, cashier and logins")),
     }
 }
 

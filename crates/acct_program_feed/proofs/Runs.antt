@@ -12,7 +12,7 @@ use Rattle.std.proofs.lemmas.List.{append-nil}
 use Rattle.acct_model.specs.declared.plan.Plan.{Plan}
 use Rattle.acct_book.specs.declared.book.Book.{Ghosts}
 use Rattle.acct_book.specs.Stands.{Stands}
-use Rattle.acct_wire.specs.declared.client.Client.{Client}
+use Rattle.acct_wire.specs.Clients.{ClientsFacts}
 use Rattle.acct_program_feed.specs.Lines.{IsCut, AreCut}
 use Rattle.acct_program_feed.specs.Feed.{AnswersLine, AnswersAll, Ran, RanAfresh}
 use Rattle.acct_program_feed.specs.inner.Feed.{Prints}
@@ -44,7 +44,7 @@ text_more answers answer =
     flat_map-append printed_text answers (answer ∷ [])
     ∙ ap (λ text. flat_map printed_text answers ++ text) (append-nil (printed_text answer))
 
-module _ {B : Type 0} (b : Ghosts B) (clients : List Client) (plans : List Plan) where
+module _ {B : Type 0} (b : Ghosts B) (clients : ClientsFacts) (plans : List Plan) where
   answered_more : (lines : List (List ℕ)) (answers : List (Option Answer)) (old mid new : B)
       (line : List ℕ) (answer : Option Answer)
       → AnswersAll b clients plans lines answers old mid

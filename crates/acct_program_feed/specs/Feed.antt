@@ -20,7 +20,7 @@ use Rattle.acct_book.specs.Stands.{Stands}
 use Rattle.acct_book.specs.Step.{Looks, Does}
 use Rattle.acct_wire.specs.declared.answering.Outcome.{Outcome}
 use Rattle.acct_wire.specs.declared.client.Client.{Client}
-use Rattle.acct_wire.specs.Clients.{client_named}
+use Rattle.acct_wire.specs.Clients.{ClientsFacts, client_named}
 use Rattle.acct_wire.specs.Outcomes as wire
 use Rattle.acct_wire.specs.Outcomes.{Written}
 use Rattle.acct_program_feed.specs.Answers.{answer_text, packet_answer, signed_answer}
@@ -34,7 +34,7 @@ use Rattle.acct_program_feed.specs.declared.answer.Answer.TheVariants as form
 use Rattle.acct_program_feed.specs.declared.line.Line.{Line}
 use Rattle.acct_program_feed.specs.declared.line.Line.TheVariants as line
 
-module _ {B : Type 0} (b : Ghosts B) (clients : List Client) (plans : List Plan) (old new : B) where
+module _ {B : Type 0} (b : Ghosts B) (clients : ClientsFacts) (plans : List Plan) (old new : B) where
   -- A datagram was checked against the clients, and its effect applied to the book once. `show`
   -- makes the answer of its outcome.
   pub record FeedsDatagram (source bytes : List ℕ) (moment : ℕ) (show : List ℕ → Outcome → Answer)
@@ -76,7 +76,7 @@ module _ {B : Type 0} (b : Ghosts B) (clients : List Client) (plans : List Plan)
   -- The line asked for the row of a session. It is a bad line if no client has the name.
   abbrev pub AnswersSession : Key → Answer → Type 0
   AnswersSession key answer =
-      MatchOption (client_named key.client clients) (IsBadLine answer)
+      MatchOption (client_named key.client clients.list) (IsBadLine answer)
       (λ client. AnswersKnown key answer)
 
   -- Attributes are sent from a client's address, signed with its secret. It is a bad line if they
@@ -90,7 +90,7 @@ module _ {B : Type 0} (b : Ghosts B) (clients : List Client) (plans : List Plan)
   -- The client of a name sends attributes. It is a bad line if no client has the name.
   abbrev pub AnswersSigned : ℕ → List ℕ → ℕ → List ℕ → Answer → Type 0
   AnswersSigned moment name identifier octets answer =
-      MatchOption (client_named name clients) (IsBadLine answer)
+      MatchOption (client_named name clients.list) (IsBadLine answer)
       (λ client. FeedsRequest moment client identifier octets answer)
 
   -- the answer to a line
@@ -125,7 +125,7 @@ abbrev pub is_good : Option Answer → Bool
 is_good (Some form.BadLine) = false
 is_good _ = true
 
-module _ {B : Type 0} (b : Ghosts B) (clients : List Client) (plans : List Plan) where
+module _ {B : Type 0} (b : Ghosts B) (clients : ClientsFacts) (plans : List Plan) where
   -- Each line was answered over the book as the line before it left it.
   abbrev pub AnswersAll : List (List ℕ) → List (Option Answer) → B → B → Type 0
   AnswersAll [] [] old new = new ≡ old

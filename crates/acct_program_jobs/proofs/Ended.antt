@@ -12,9 +12,10 @@ use Rattle.acct_program.specs.declared.status.Status.{Status}
 use Rattle.acct_program_commands.specs.declared.fault.Fault.{Fault}
 use Rattle.acct_program_jobs.specs.declared.left.Left.{Left}
 use Rattle.acct_program_jobs.specs.declared.left.Left.TheVariants as left
-use Rattle.acct_program_jobs.specs.Files.{IsRefused, IsUnclosed, Copies}
+use Rattle.acct_program_jobs.specs.Files.{IsRefused, IsUnclosed, Copies, IsUnread}
+use Rattle.acct_program_jobs.specs.Files.{IsUnfound, IsUnlisted}
 use Rattle.acct_program_jobs.specs.Commands.{Worked, Closes, Fails, FailsToExport, IsNotClosed}
-use Rattle.acct_program_jobs.specs.Jobs.{ClosesOrFails, FailsAtWork, IsUnchecked}
+use Rattle.acct_program_jobs.specs.Jobs.{ClosesOrFails, FailsAtWork, IsUnchecked, AreUntold}
 
 -- what holds with one configuration holds with some
 pub with_config : {A E : Type 0} (P : Config → A → Type 0) (config : Config) (result : Result A E)
@@ -124,3 +125,32 @@ module _ {D : Type 0} {g : disk.Ghosts D} (image : Image)
         → IfErr result (λ e. FailsAtWork image Did e.0 e.1)
     fails_by config (Ok done) h = tt
     fails_by config (Err e) h = inr (config, h)
+
+-- ---- files that were not opened
+
+module _ {D : Type 0} {g : disk.Ghosts D} (image : Image) where
+  -- what was not opened was not adopted, or listed
+  pub unread_refused : (plans : List Plan) (told : Fault) (rest : Left D g)
+      → IsUnread image told rest → IsRefused image plans told rest
+  unread_refused plans told left.Nothing h = inl h
+  unread_refused plans told (left.Unopened it) h = h
+  unread_refused plans told (left.Open last) h = absurd h
+  unread_refused plans told (left.Unclosed it) h = absurd h
+  unread_refused plans told (left.Closed files) h = absurd h
+
+  pub unread_unlisted : (told : Fault) (rest : Left D g) → IsUnread image told rest
+      → IsUnlisted image told rest
+  unread_unlisted told left.Nothing h = inl h
+  unread_unlisted told (left.Unopened it) h = h
+  unread_unlisted told (left.Open last) h = absurd h
+  unread_unlisted told (left.Unclosed it) h = absurd h
+  unread_unlisted told (left.Closed files) h = absurd h
+
+  -- plans that were not listed were not written
+  pub unlisted_untold : (told : Fault) (rest : Left D g) → IsUnlisted image told rest
+      → AreUntold image told rest
+  unlisted_untold told left.Nothing h = h
+  unlisted_untold told (left.Unopened it) h = h
+  unlisted_untold told (left.Open last) h = inl h
+  unlisted_untold told (left.Unclosed it) h = absurd h
+  unlisted_untold told (left.Closed files) h = absurd h

@@ -17,7 +17,7 @@ use Rattle.acct_program_commands.specs.Exports.{Exports, IsExportFault}
 use Rattle.acct_program_commands.specs.declared.fault.Fault.{Fault}
 use Rattle.acct_program_jobs.specs.declared.left.Left.{Left}
 use Rattle.acct_program_jobs.specs.declared.left.Left.TheVariants as left
-use Rattle.acct_program_jobs.specs.Files.{IsBookOf, IsOther, IsUnread, IsUnclosed, Copies}
+use Rattle.acct_program_jobs.specs.Files.{IsBookOf, IsOther, IsUnfound, IsUnclosed, Copies}
 
 module _ {D : Type 0} {g : disk.Ghosts D} where
   -- what was done from the book that the files held to this one
@@ -48,7 +48,7 @@ module _ {D : Type 0} {g : disk.Ghosts D} where
     FailsAt told (left.Open last) =
         IsOther image plans told last ⊎ Worked image plans (Did (Err told)) last
     FailsAt told (left.Unclosed rest) = FailsToClose told (left.Unclosed rest)
-    FailsAt told rest = IsUnread image told rest
+    FailsAt told rest = IsUnfound image told rest
 
     -- a command that a fault ended
     pub record Fails (told : Fault) (rest : Left D g) : Type 0 where
@@ -79,4 +79,4 @@ module _ {D : Type 0} {g : disk.Ghosts D} (b : book.Ghosts (Held (FileStore D g)
   FailsToExport told (left.Open last) = IsOther image plans told last
       ⊎ (Worked image plans (λ first last. Looks b first last (refused told)) last
       × IsExportFault told)
-  FailsToExport told rest = IsUnread image told rest
+  FailsToExport told rest = IsUnfound image told rest

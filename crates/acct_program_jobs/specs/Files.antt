@@ -1,5 +1,5 @@
 -- What the files of a book held as they were opened, and what they hold afterwards.
-use Rattle.std.specs.Prelude.{◌≡◌, ◌≢◌, ◌⊎◌, ℕ, List, IsTrue, None, length}
+use Rattle.std.specs.Prelude.{◌≡◌, ◌≢◌, ◌⊎◌, ℕ, Bool, true, false, List, IsTrue, None, length}
 use Rattle.sqlite_disk.specs.declared.Disk.{Ghosts}
 use Rattle.sqlite_disk.specs.declared.Files.{Files}
 use Rattle.sqlite_wal.specs.Recovery.{Image}
@@ -20,6 +20,7 @@ use Rattle.acct_sql_tables.specs.Tables.{own_number}
 use Rattle.acct_sql_tables.specs.Make.{IsNew, KeepsPlans}
 use Rattle.acct_sql_tables.specs.Migrate.{IsOlder, IsMigrated, IsNotMigratedAs}
 use Rattle.acct_sql_upkeep.specs.Add.{AreExtended, HasAdded, IsNotAddedAs}
+use Rattle.acct_sql_upkeep.specs.List.{IsUnlistedAs}
 use Rattle.acct_sql_tables.specs.Tables.{no_schema}
 use Rattle.acct_program_commands.specs.declared.fault.Fault.{Fault}
 use Rattle.acct_program_commands.specs.declared.fault.Fault.TheVariants as fault
@@ -29,6 +30,11 @@ use Rattle.acct_program_jobs.specs.declared.left.Left.TheVariants as left
 use Rattle.acct_program_jobs.specs.declared.making.Making.{Making}
 use Rattle.acct_program_jobs.specs.declared.making.Making.TheVariants as how
 use Rattle.acct_program_jobs.specs.Faults.{store_fault_of}
+
+-- why files are not opened: they must not be, or no book is to be made and the book's is empty
+abbrev pub IsUnlooked : Bool → Fault → Type 0
+IsUnlooked true told = told ≡ fault.CannotOpen
+IsUnlooked false told = (told ≡ fault.CannotOpen) ⊎ (told ≡ fault.Store store.NotABook)
 
 -- ---- what they held
 
@@ -107,14 +113,18 @@ module _ {D : Type 0} {g : Ghosts D} where
     pub leaves : HasCleanDisk (file_state last) → (db : Trees) → (file_state last).may_leave db
         → AreHeldIn image db
 
-  -- the files hold what they held, and the fault says why that is no book of these plans
-  pub record IsOther (image : Image) (plans : List Plan) (told : Fault)
+  -- the files hold what they held, and the fault says why that is refused
+  pub record IsRefusal (image : Image) (Refuses : Database → SqlBookError → Type 0) (told : Fault)
       (last : Held (FileStore D g)) : Type 0 where
     pub still : HoldsStill image last
     pub error : SqlBookError
     pub telling : told ≡ fault.Store (store_fault_of error)
     pub why : HasCleanDisk (file_state last)
-        → (held : Database) × WasHeldIn image held × IsRefusedAs plans held error
+        → (held : Database) × WasHeldIn image held × Refuses held error
+
+  -- it is no book of these plans
+  abbrev pub IsOther : Image → List Plan → Fault → Held (FileStore D g) → Type 0
+  IsOther image plans told last = IsRefusal image (IsRefusedAs plans) told last
 
   -- No book was made. The files hold what they held, except that a crash may leave the new book.
   pub record IsUnmade (image : Image) (plans : List Plan) (told : Fault)
@@ -171,15 +181,27 @@ module _ {D : Type 0} {g : Ghosts D} where
   IsUnread image told (left.Unclosed rest) = ⊥
   IsUnread image told (left.Closed files) = ⊥
 
+  -- no database was opened that should be there: nor was an empty file, which is no book
+  abbrev pub IsUnfound : Image → Fault → Left D g → Type 0
+  IsUnfound image told left.Nothing = IsUnlooked false told
+  IsUnfound image told rest = IsUnread image told rest
+
   -- why no book was adopted, and what is left of the files
   abbrev pub IsRefused : Image → List Plan → Fault → Left D g → Type 0
   IsRefused image plans told (left.Open last) = IsOther image plans told last
-  IsRefused image plans told rest = IsUnread image told rest
+  IsRefused image plans told rest = IsUnfound image told rest
+
+  -- why no plans were listed, and what is left of the files
+  abbrev pub IsUnlisted : Image → Fault → Left D g → Type 0
+  IsUnlisted image told (left.Open last) = IsRefusal image IsUnlistedAs told last
+  IsUnlisted image told rest = IsUnfound image told rest
 
   -- why no book was made this way, and what is left of the files
   abbrev pub HasNotMade : Making → Image → List Plan → Fault → Left D g → Type 0
   HasNotMade making image plans told (left.Open last) = IsNotMade making image plans told last
-  HasNotMade making image plans told rest = IsUnread image told rest
+  HasNotMade (how.New has_sums) image plans told rest = IsUnread image told rest
+  HasNotMade how.Migrated image plans told rest = IsUnfound image told rest
+  HasNotMade how.Extended image plans told rest = IsUnfound image told rest
 
   -- the two files have what the book committed, if the disk has returned what was written to it
   abbrev pub Copies : Held (FileStore D g) → Files D → Type 0

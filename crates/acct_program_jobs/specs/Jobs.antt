@@ -12,6 +12,7 @@ use Rattle.sqlite.specs.Held.{Held}
 use Rattle.sqlite.specs.State.{HasCleanDisk}
 use Rattle.sqlite.specs.Files.{file_state}
 use Rattle.acct_model.specs.declared.plan.Plan.{Plan}
+use Rattle.acct_model.specs.PlanFaults.{plans_fault}
 use Rattle.acct_book.specs.declared.book.Book as book
 use Rattle.acct_site.specs.declared.config.Config.{Config}
 use Rattle.acct_site.specs.SampleSite.{sample_clients, sample_plans}
@@ -30,6 +31,7 @@ use Rattle.acct_program_args.specs.declared.job.Serving.{Serving}
 use Rattle.acct_program_commands.specs.Auditing.{Audits}
 use Rattle.acct_program_commands.specs.Checks.{IsNoConfig, TellsSizes, sizes_line}
 use Rattle.acct_program_commands.specs.Checks as check
+use Rattle.acct_program_commands.specs.Exports.{IsExportFault, plans_text}
 use Rattle.acct_program_commands.specs.KeptNames.{NamesSome}
 use Rattle.acct_program_commands.specs.Imports.{Runs}
 use Rattle.acct_program_commands.specs.Survey.{RunsForward}
@@ -40,9 +42,9 @@ use Rattle.acct_program_jobs.specs.declared.left.Left.{Left}
 use Rattle.acct_program_jobs.specs.declared.left.Left.TheVariants as left
 use Rattle.acct_program_jobs.specs.declared.making.Making.{Making}
 use Rattle.acct_program_jobs.specs.declared.making.Making.TheVariants as how
-use Rattle.acct_program_jobs.specs.Files.{IsMade, HasNotMade, IsBookOf, IsOther, IsUnread}
+use Rattle.acct_program_jobs.specs.Files.{IsMade, HasNotMade, IsBookOf, IsOther, IsUnfound}
 use Rattle.acct_program_jobs.specs.Files.{IsUnclosed}
-use Rattle.acct_program_jobs.specs.Files.{Copies, IsRefused}
+use Rattle.acct_program_jobs.specs.Files.{Copies, IsRefused, IsUnlisted}
 use Rattle.acct_program_jobs.specs.Commands.{Worked, Closes, Fails, WritesOut, FailsToExport}
 
 -- what a command printed, if its output was not lost
@@ -182,11 +184,37 @@ module _ {D : Type 0} {g : disk.Ghosts D} where
         IsOther image plans told last
         ⊎ ((told ≡ fault.CannotWrite)
         × (HasCleanDisk (file_state last) → IsBookOf image plans last))
-    IsUnchecked plans told rest = IsUnread image told rest
+    IsUnchecked plans told rest = IsUnfound image told rest
 
     abbrev pub FailsToCheck : Fault → Left D g → Type 0
     FailsToCheck told rest =
         HasNoConfig told rest ⊎ ((config : Config) × IsUnchecked config.plans told rest)
+
+    -- the output got the plans that the book in the files keeps: each class has one of them
+    pub record AreListed (before after : Option (List ℕ)) (last : Held (FileStore D g)) : Type 0
+      where
+        pub plans : List Plan
+        pub faultless : plans_fault plans ≡ None
+        pub kept : HasCleanDisk (file_state last) → IsBookOf image plans last
+        pub told : Appends before after (plans_text plans)
+
+    -- why it did not: there is no book in the files, or the plans of a book could not be written
+    abbrev pub AreUntold : Fault → Left D g → Type 0
+    AreUntold told (left.Open last) = IsUnlisted image told (left.Open last)
+        ⊎ (IsExportFault told × ((plans : List Plan)
+        × (HasCleanDisk (file_state last) → IsBookOf image plans last)))
+    AreUntold told rest = IsUnfound image told rest
+
+    abbrev pub FailsToList : Fault → Left D g → Type 0
+    FailsToList told rest = HasNoConfig told rest ⊎ AreUntold told rest
+
+    -- `plans --list`
+    abbrev pub ListsPlans : Option (List ℕ) → Option (List ℕ) → Result Status Fault → Left D g
+        → Type 0
+    ListsPlans before after ended rest =
+        ((last : Held (FileStore D g)) × (ended ≡ Ok status.Done) × (rest ≡ left.Open last)
+        × AreListed before after last)
+        ⊎ ((told : Fault) × (ended ≡ Err told) × FailsToList told rest)
 
     -- `check` with a book
     abbrev pub ChecksBook : Option (List ℕ) → Option (List ℕ) → Result Status Fault → Left D g
@@ -315,6 +343,7 @@ module _ {D : Type 0} {g : disk.Ghosts D} where
           ClosesOrFails (Migrates b before after) FailsToMigrate ended rest
       DoesBookJob name of_book.AddPlans ended rest =
           ClosesOrFails (AddsPlans b before after) FailsToAdd ended rest
+      DoesBookJob name of_book.ListPlans ended rest = ListsPlans before after ended rest
 
       abbrev pub DoesJob : Job → Result Status Fault → Left D g → Type 0
       DoesJob (job.Feed file) ended rest =

@@ -1,7 +1,7 @@
 //! Each job over the files of a book.
 //!
-//! `export` only reads the book, and leaves its files as they are. The other jobs that keep a book
-//! close it at their end.
+//! `export` and `plans --list` only read the book, and leave its files as they are. The other jobs
+//! that keep a book close it at their end.
 ghost use Rattle.std.specs.Prelude.{◌≢◌, ◌≡◌, ◌⊎◌, ℕ, Ok, Err, IfOk, IfErr};
 ghost use Rattle.std.specs.Prelude.{true, false, None, Some, IsSomeAnd, List, Option};
 ghost use Rattle.sqlite_wal.specs.Files.{image_at};
@@ -25,6 +25,7 @@ use crate::database::{FileConnection, adopted};
 use crate::feed_job::run_feed;
 use crate::left::Left;
 use crate::making::{Making, make};
+use crate::plans_job::list_plans;
 use crate::serving::server_of;
 use crate::work::{Forward, Import, work_on};
 use acct_book::Book;
@@ -142,6 +143,7 @@ pub fn carry_out<S: Start, I: Read + Drop, W: Write + Drop, E: Write + Drop, F: 
                 BookJob::Export(what) => export(runtime, files, *what, output, start),
                 BookJob::Migrate => make(runtime, Making::Migrated, files, output, start),
                 BookJob::AddPlans => make(runtime, Making::Extended, files, output, start),
+                BookJob::ListPlans => list_plans(runtime, files, output, start),
                 BookJob::Forward(carrying) => {
                     let clock = read_clock(runtime, files.database);
                     let forward = Forward::by(clock, carrying, errors);

@@ -10,7 +10,7 @@ ghost use Rattle.sqlite.specs.Files.{file_state, IsBlankAs};
 ghost use Rattle.sqlite_store.specs.FileStore.{view};
 ghost use Rattle.acct_program_jobs.specs.Faults.{store_fault_of};
 ghost use Rattle.acct_program_jobs.specs.Files.{IsBookOf, IsMade, IsRefused, HasNotMade, IsUnread};
-ghost use Rattle.acct_program_jobs.specs.Files.{Copies, IsGuarded, IsUnclosed};
+ghost use Rattle.acct_program_jobs.specs.Files.{Copies, IsGuarded, IsUnclosed, IsUnlisted};
 ghost use Rattle.acct_program_jobs.specs.inner.Files.{IsOpenedOn};
 
 use crate::book_file::BookFile;
@@ -20,6 +20,8 @@ use crate::making::Making;
 use acct_model::{Plans, Text};
 use acct_program_commands::{Fault, MakesFiles, StoreFault};
 use acct_sql::{SqlBook, SqlBookError};
+use acct_sql_tables::idle::connection_is_idle;
+use acct_sql_upkeep::listing::kept_plans;
 use sqlite::{Connection, FileFrom, FileStore, Files, Options, Start};
 use sqlite_disk::Disk;
 use std::alloc::Global;
@@ -41,9 +43,9 @@ pub type FileConnection<S> = Connection<FileStore<FileFrom<S>>>;
 /// damage on may be lost. `CannotOpen` too if a new book is to be made where none is, next to a log
 /// that has commits which no `init` made: it belongs to a book that is missing. No file is then
 /// made. `CannotOpen` too if an existing book's file is no regular one, has 1 to 99 octets, or is
-/// empty next to a log with frames. Else the error of `SqlBook::create`, `migrate` or `add_plans`.
-/// Each has what is left of the files. They hold what they held, except that a crash may leave the
-/// book that was to be made.
+/// empty next to a log with frames. `NotABook` if it is empty without these, and it stays empty.
+/// Else the error of `SqlBook::create`, `migrate` or `add_plans`. Each has what is left of the
+/// files. They hold what they held, except that a crash may leave the book that was to be made.
 pub fn made<S: Start>(
     runtime: &HostRuntime,
     making: Making,
@@ -57,8 +59,9 @@ pub fn made<S: Start>(
         HasNotMade making (image_at S.Start) plans.now e.0 e.1) }
 {
     let (sums, file) = (making.sums(), files.database);
-    let Some(looked) = Looked::at(runtime, files, sums.is_some()) else {
-        return Err((Fault::CannotOpen, Left::Nothing));
+    let looked = match Looked::at(runtime, files, sums.is_some()) {
+        Ok(looked) => looked,
+        Err(fault) => return Err((fault, Left::Nothing)),
     };
     if sums.is_some() {
         keep_private(runtime, file);
@@ -72,9 +75,10 @@ pub fn made<S: Start>(
 /// # Errors
 ///
 /// `CannotOpen` if no regular file exists, if it has 1 to 99 octets, or if it is empty next to a
-/// log that has frames. `CannotOpen` too if it cannot be opened, or if its log is damaged, unless
-/// the commits from the damage on may be lost. Else the error of `SqlBook::adopt`, with what is
-/// left of the files, which hold what they held.
+/// log that has frames. `NotABook` if it is empty without these, and it stays empty. `CannotOpen`
+/// too if it cannot be opened, or if its log is damaged, unless the commits from the damage on may
+/// be lost. Else the error of `SqlBook::adopt`, with what is left of the files, which hold what
+/// they held.
 pub fn adopted<S: Start>(
     runtime: &HostRuntime,
     files: BookFile<'_>,
@@ -85,11 +89,36 @@ pub fn adopted<S: Start>(
         → IsBookOf (image_at S.Start) plans.now book) }
     ensures refused { IfErr result (λ e. IsRefused (image_at S.Start) plans.now e.0 e.1) }
 {
-    let Some(looked) = Looked::at(runtime, files, false) else {
-        return Err((Fault::CannotOpen, Left::Nothing));
+    let looked = match Looked::at(runtime, files, false) {
+        Ok(looked) => looked,
+        Err(fault) => return Err((fault, Left::Nothing)),
     };
     let connection = opened_anew(runtime, looked, false, start)?;
     taken(runtime.alloc(), connection, plans)
+}
+
+/// The plans that the book in an existing file keeps, and the connection to it. The files stay as
+/// they are.
+///
+/// # Errors
+///
+/// Those of `adopted`, of which `PlansDiffer` says that the rows of the plans are no plans of a
+/// site.
+pub fn listed<S: Start>(
+    runtime: &HostRuntime,
+    files: BookFile<'_>,
+    start: S,
+) -> Result<(Plans, FileConnection<S>), (Fault, Left<FileFrom<S>>)>
+    ensures kept { IfOk result (λ done. HasCleanDisk (file_state done.1)
+        → IsBookOf (image_at S.Start) done.0 done.1) }
+    ensures refused { IfErr result (λ e. IsUnlisted (image_at S.Start) e.0 e.1) }
+{
+    let looked = match Looked::at(runtime, files, false) {
+        Ok(looked) => looked,
+        Err(fault) => return Err((fault, Left::Nothing)),
+    };
+    let connection = opened_anew(runtime, looked, false, start)?;
+    kept_in(runtime.alloc(), connection)
 }
 
 /// Closes a book: copies what its log holds into its file. Returns the two files, which then hold
@@ -136,6 +165,24 @@ fn taken<D: Disk + Drop>(
         Err((error, connection)) => {
             Err((Fault::Store(store_fault(error)), Left::Open(connection)))
         }
+    }
+}
+
+// The plans that the book in a database keeps that was opened over files that held an image.
+fn kept_in<D: Disk + Drop>(
+    alloc: Global,
+    mut connection: Connection<FileStore<D>>,
+) -> Result<(Plans, Connection<FileStore<D>>), (Fault, Left<D>)>
+    requires { (file_state connection).in_transaction ≡ false }
+    ensures kept { (image : Image) → IsOpenedOn image connection → IsGuarded connection
+        → IfOk result (λ done. HasCleanDisk (file_state done.1) → IsBookOf image done.0 done.1) }
+    ensures refused { (image : Image) → IsOpenedOn image connection
+        → IfErr result (λ e. IsUnlisted image e.0 e.1) }
+{
+    connection_is_idle(&connection);
+    match kept_plans(alloc, &mut connection) {
+        Ok(plans) => Ok((plans, connection)),
+        Err(error) => { Err((Fault::Store(store_fault(error)), Left::Open(connection))) }
     }
 }
 

@@ -17,6 +17,7 @@ mod feed_job;
 mod left;
 mod looked;
 mod making;
+mod plans_job;
 mod serving;
 mod work;
 

@@ -1,13 +1,15 @@
 //! The look at the files of a book before they are opened.
 //!
-//! An open makes a file that does not exist, and a database of a text shorter than a header, and it
-//! blocks on a pipe. It stops reading a damaged log at the damage, and writes behind it. It empties
-//! a log next to a file without a database. A mistyped name must do none of this. So an open takes
-//! files that were looked at, and nothing but a look makes these.
-ghost use Rattle.std.specs.Prelude.{◌≡◌, IfSome};
+//! An open makes a file that does not exist, and a database of a text shorter than a header or of
+//! none, and it blocks on a pipe. It stops reading a damaged log at the damage, and writes behind
+//! it. It empties a log next to a file without a database. A mistyped name must do none of this. So
+//! an open takes files that were looked at, and nothing but a look makes these.
+ghost use Rattle.std.specs.Prelude.{◌≡◌, false, IfOk, IfErr};
+ghost use Rattle.acct_program_jobs.specs.Files.{IsUnlooked};
 
 use crate::book_file::BookFile;
 use acct_model::Text;
+use acct_program_commands::{Fault, StoreFault};
 use acct_reads::ReadsFiles;
 use acct_sql_log::{
     DATABASE_HEADER_OCTETS, LOG_HEADER_OCTETS, damage_beside, has_lost_book, log_name,
@@ -20,24 +22,24 @@ pub(crate) struct Looked<'a> {
 }
 
 impl<'a> Looked<'a> {
-    /// Files that may be opened, of a book that exists, or that is to be made. `None` if an open
-    /// must not have them.
+    /// Files that may be opened, of a book that exists, or that is to be made.
+    ///
+    /// # Errors
+    ///
+    /// `CannotOpen` if an open must not have them. `NotABook` if the file of a book that should
+    /// exist is empty, and has no log that would be read in its place.
     pub(crate) fn at<R: ReadsFiles + AllocGlobal>(
         runtime: &R,
         files: BookFile<'a>,
         is_new: bool,
-    ) -> Option<Looked<'a>>
-        ensures { IfSome result (λ looked. looked.files ≡ files.entry) }
+    ) -> Result<Looked<'a>, Fault>
+        ensures files { IfOk result (λ looked. looked.files ≡ files.entry) }
+        ensures why { IfErr result (IsUnlooked is_new) }
     {
-        let may_open = if is_new {
-            !has_lost_book(runtime, runtime.alloc(), files.database.as_str())
-        } else {
-            may_be_database(runtime, files.database)
-        };
-        if may_open && is_readable(runtime, files) {
-            Some(Looked { files })
-        } else {
-            None
+        match check_file(runtime, files.database, is_new) {
+            Ok(()) if is_readable(runtime, files) => Ok(Looked { files }),
+            Ok(()) => Err(Fault::CannotOpen),
+            Err(fault) => Err(fault),
         }
     }
 
@@ -49,13 +51,36 @@ impl<'a> Looked<'a> {
     }
 }
 
-// Whether a file may be a database: a regular one that is long enough for a header, or an empty one
-// without a log that would be read in its place.
-fn may_be_database<R: ReadsFiles + AllocGlobal>(runtime: &R, file: &Text) -> bool {
+// Refuses a file that an open must not have, as a new book or as an existing one.
+fn check_file<R: ReadsFiles + AllocGlobal>(
+    runtime: &R,
+    file: &Text,
+    is_new: bool,
+) -> Result<(), Fault>
+    ensures { IfErr result (IsUnlooked is_new) }
+{
+    if !is_new {
+        return check_existing(runtime, file);
+    }
+    if has_lost_book(runtime, runtime.alloc(), file.as_str()) {
+        Err(Fault::CannotOpen)
+    } else {
+        Ok(())
+    }
+}
+
+// Refuses a file that is no database: one that is missing, or not regular, or not long enough for a
+// header.
+fn check_existing<R: ReadsFiles + AllocGlobal>(runtime: &R, file: &Text) -> Result<(), Fault>
+    ensures { IfErr result (IsUnlooked false) }
+{
     match runtime.metadata(file.as_str()) {
-        Ok(found) if found.is_file() && found.len() == 0 => !has_log(runtime, file),
-        Ok(found) => found.is_file() && found.len() >= DATABASE_HEADER_OCTETS,
-        Err(_) => false,
+        Ok(found) if !found.is_file() => Err(Fault::CannotOpen),
+        Ok(found) if found.len() >= DATABASE_HEADER_OCTETS => Ok(()),
+        Ok(found) if found.len() == 0 && !has_log(runtime, file) => {
+            Err(Fault::Store(StoreFault::NotABook))
+        }
+        _ => Err(Fault::CannotOpen),
     }
 }
 

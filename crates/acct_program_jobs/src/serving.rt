@@ -1,20 +1,23 @@
 //! `serve`: a server over the book of a file.
 ghost use Rattle.std.specs.Prelude.{◌≡◌, None, true, false};
+ghost use Rattle.acct_program_serving.specs.Serving.{AreReports};
 
 use crate::book_file::BookFile;
 use crate::explained_site::ExplainedSite;
 use crate::work::Server;
 use acct_program_args::Serving;
 use acct_program_commands::note_clock;
-use acct_program_serving::{Errors, Surroundings};
+use acct_program_serving::{Errors, Surroundings, bind_reports};
 use acct_reads::ReadsFiles;
 use std::io::Write;
+use std::net::Net;
 use std::time::Clock;
 
-/// A server that will open the book of a file. While it runs it prints on `errors` what it drops,
-/// unless it is quiet, and what happens to its files. It is made before the configuration is read,
-/// so that it misses no change of that.
-pub(crate) fn server_of<'a, R: ReadsFiles + Clock + AllocGlobal, E: Write + Drop>(
+/// A server that will open the book of a file. Its sockets for reports are bound here, and what
+/// arrives until it serves waits there. While it runs it prints on `errors` what it drops, unless it
+/// is quiet, and what happens to its files. It is made before the configuration is read, so that it
+/// misses no change of that.
+pub(crate) fn server_of<'a, R: ReadsFiles + Clock + Net + AllocGlobal, E: Write + Drop>(
     runtime: &'a R,
     files: BookFile<'a>,
     serving: &'a Serving,
@@ -22,12 +25,14 @@ pub(crate) fn server_of<'a, R: ReadsFiles + Clock + AllocGlobal, E: Write + Drop
 ) -> Server<'a, R, E>
     ensures serving { result.serving ≡ serving.entry }
     ensures file { result.file.now ≡ files.entry.database.now }
+    ensures reports { AreReports serving.now.listening result.around.reports }
     ensures source { result.around.source.name.now ≡ files.entry.config.now }
     ensures explains { result.around.source.explains ≡ errors.explains }
     ensures quiet { serving.now.telling.is_quiet ≡ true → result.around.errors.drops ≡ None }
     ensures drops { serving.now.telling.is_quiet ≡ false
         → result.around.errors.drops ≡ errors.drops }
 {
+    let reports = bind_reports(runtime, runtime.alloc(), &serving.listening);
     let source = ExplainedSite::new(runtime, files.config, errors.explains);
     let mut errors = told_to(errors, serving.telling.is_quiet);
     let file = files.database;
@@ -36,7 +41,11 @@ pub(crate) fn server_of<'a, R: ReadsFiles + Clock + AllocGlobal, E: Write + Drop
     Server {
         serving,
         file,
-        around: Surroundings { source, errors },
+        around: Surroundings {
+            reports,
+            source,
+            errors,
+        },
     }
 }
 

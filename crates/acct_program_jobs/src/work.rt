@@ -9,7 +9,7 @@ ghost use Rattle.acct_program_commands.specs.declared.fault.Fault.{Fault};
 ghost use Rattle.acct_program_commands.specs.Imports.{Runs};
 ghost use Rattle.acct_program_commands.specs.Survey.{RunsForward};
 ghost use Rattle.acct_program_args.specs.Orders.{IsBounded};
-ghost use Rattle.acct_program_serving.specs.Serving.{IsBoundTo, RunsServer};
+ghost use Rattle.acct_program_serving.specs.Serving.{AreReports, IsBoundTo, RunsServer};
 ghost use Rattle.acct_program_jobs.specs.Files.{Copies};
 ghost use Rattle.acct_program_jobs.specs.Commands.{IsNotClosed};
 ghost use Rattle.acct_program_jobs.specs.Jobs.{ClosesOrFails, WorksAndCloses, FailsAtWork, text_of};
@@ -163,7 +163,9 @@ pub(crate) struct Server<'a, R, E: Drop> {
 }
 
 impl<R: ReadsFiles + Clock, W: Write, E: Write + Drop> Work<W> for Server<'_, R, E> {
-    ghost is_ready = { λ it. IsBounded it.serving.now };
+    // Its sockets for reports are bound already, and the book is not open yet.
+    ghost is_ready = { λ it. IsBounded it.serving.now
+        × AreReports it.serving.now.listening it.around.reports };
 
     // The file of the configuration is polled, and the clock is read. No contract can say what they
     // show.

@@ -8,7 +8,7 @@ use acct_model::{Octets, Text};
 use acct_program::{InputFault, Status};
 use acct_program_args::{Listening, Serving, Syncs, Telling};
 use acct_program_commands::SiteSource;
-use acct_program_serving::{Errors, Surroundings, run_serve};
+use acct_program_serving::{Errors, Surroundings, bind_reports, run_serve};
 use std::alloc::Global;
 use std::cell::Cell;
 use std::io::Write;
@@ -160,6 +160,7 @@ fn is_silenced(runtime: &Staged, client: &UdpSocket) -> Result<bool, Fail> {
         text: Vec::new(alloc),
     };
     let around = Surroundings {
+        reports: bind_reports(runtime, alloc, &serving.listening),
         source: sender,
         errors: Errors {
             drops: None,

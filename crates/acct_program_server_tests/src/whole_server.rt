@@ -10,7 +10,7 @@ use acct_model::Text;
 use acct_program::Status;
 use acct_program_args::{BalancesFile, Listening, Serving, Syncs, Telling};
 use acct_program_commands::{Shared, SiteFile};
-use acct_program_serving::{Errors, Surroundings, run_serve};
+use acct_program_serving::{Errors, Surroundings, bind_reports, run_serve};
 use acct_site::Config;
 use std::alloc::Global;
 use std::cell::{Cell, RefCell};
@@ -148,6 +148,7 @@ fn run(
         had_balances: false,
     };
     let around = Surroundings {
+        reports: bind_reports(runtime, alloc, &serving.listening),
         source: stage,
         errors: Errors {
             drops: Some(Shared::new(errors)),

@@ -10,7 +10,8 @@ use Rattle.acct_site.specs.declared.config.Config.{Config}
 use Rattle.acct_service.specs.Slices.{Slice}
 use Rattle.acct_service.specs.declared.exchange.Exchange as exchange
 use Rattle.acct_service.specs.declared.slices.Until.TheVariants as until
-use Rattle.acct_net.specs.Bound.{AreBoundAt}
+use Rattle.acct_net.specs.Bound.{AreBoundAt, AreUnheardAt}
+use Rattle.acct_net.specs.declared.datagrams.Datagrams.{Datagrams}
 use Rattle.acct_net.specs.declared.datagrams.RadiusSocket.{RadiusSocket}
 use Rattle.acct_program_args.specs.declared.job.Listening.{Listening}
 use Rattle.acct_program_args.specs.declared.job.Serving.{Serving}
@@ -43,6 +44,14 @@ ended_of how.NotBegun = Err fault.CannotWrite
 -- the sockets could not be bound, or there was no memory for datagrams or names
 abbrev pub IsUnbound : Fault → Type 0
 IsUnbound told = (told ≡ fault.CannotBind) ⊎ (told ≡ fault.NoMemory)
+
+-- Sockets for datagrams are bound as the options say: one at each address that they name, in their
+-- order, and each at its port. Nothing was received at them. Or it is told why there are none.
+abbrev pub AreReports : Listening → Result Datagrams Fault → Type 0
+AreReports listening (Ok datagrams) = (addresses : List (List ℕ))
+    × AllZip IsDotted listening.addresses.items addresses
+    × AreUnheardAt addresses listening.radius_port datagrams
+AreReports listening (Err told) = IsUnbound told
 
 -- The sockets are bound as the options say: one for datagrams at each address that they name, in
 -- their order, and the desk at its own; each at its port.

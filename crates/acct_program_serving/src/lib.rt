@@ -2,7 +2,8 @@
 //!
 //! 1. `Watcher::serve` runs once the sockets are bound, over any exchange, book and rounds. What
 //!    the exchange records of its calls is what was answered, and what was printed is counted of it.
-//! 2. `run_serve` binds the sockets, and then runs that.
+//! 2. `run_serve` binds the socket of the desk, and then runs that. Those for reports are bound by
+//! `bind_reports`, before there is a book.
 #![tactic(auto)]
 
 mod counts;
@@ -14,5 +15,5 @@ mod watcher;
 
 pub use counts::{Counts, Drops};
 pub use ended::Ended;
-pub use sockets_server::{Errors, Surroundings, run_serve};
+pub use sockets_server::{Errors, Surroundings, bind_reports, run_serve};
 pub use watcher::{Watcher, serve_exchange};

@@ -1,4 +1,9 @@
 //! A server over sockets: binds them, and then runs a watched server over them.
+//!
+//! 1. The sockets for reports are bound first, before the book is opened. So what arrives until the
+//!    server serves waits in the system, as far as that has room.
+//! 2. Why they could not be bound is told where the desk is bound, which comes after the book. So no
+//!    fault of a socket hides one of the book.
 ghost use Rattle.std.specs.Prelude.{◌≡◌, ◌≤◌, ◌<◌, ◌^◌, IfOk, IfErr, IfSome};
 ghost use Rattle.std.specs.Prelude.{◌∷◌, [], ℕ, List, None, Option, IsSomeAnd, MatchOption};
 ghost use Rattle.std.specs.List.{AllZip};
@@ -11,14 +16,14 @@ ghost use Rattle.acct_program_commands.specs.Rounds.{KeepsAt, file_of};
 ghost use Rattle.acct_program_commands.specs.RoundStates.{state_of};
 ghost use Rattle.acct_program_args.specs.declared.job.BalancesFile.{BalancesFile};
 ghost use Rattle.acct_program_serving.specs.Files.{Begins, IsCounted, IsKept, IsNamed};
-ghost use Rattle.acct_program_serving.specs.Serving.{IsBoundTo, RunsServer, IsUnbound};
+ghost use Rattle.acct_program_serving.specs.Serving.{AreReports, IsBoundTo, RunsServer, IsUnbound};
 ghost use Rattle.acct_program_serving.specs.Serving.{ended_of};
 
 use crate::ended::Ended;
 use crate::watcher::Watcher;
 use acct_book::Book;
 use acct_model::{Text, address_of};
-use acct_net::Sockets;
+use acct_net::{Datagrams, Sockets};
 use acct_program::Status;
 use acct_program_args::{Listening, Serving, Telling, seconds_in};
 use acct_program_commands::{
@@ -29,13 +34,17 @@ use acct_service::{Exchange, Rules, Until, moment_of};
 use acct_site::Config;
 use std::alloc::{AllocError, Global};
 use std::cell::RefCell;
+use std::io;
 use std::io::{ErrorKind, Write};
 use std::net::Net;
 use std::time::Clock;
 
-/// What is around a server: the text of its configuration, and where it prints.
+/// What is around a server: its sockets for reports, the text of its configuration, and where it
+/// prints.
 #[derive(Drop)]
 pub struct Surroundings<S: Drop, E: Drop> {
+    /// The sockets for reports, or why there are none.
+    pub reports: Result<Datagrams, Fault>,
     /// The text of the configuration, which is polled.
     pub source: S,
     /// Where it prints what the caller of the program should see.
@@ -55,7 +64,7 @@ pub struct Errors<E: Drop> {
 }
 
 /// Serves a configuration over a book for so many turns, at the addresses and ports in `serving`.
-/// It binds all sockets, and then runs `Watcher::serve` over them.
+/// It binds the desk's socket, and then runs `Watcher::serve` over it and those for reports.
 ///
 /// While it runs it prints on `errors`, if it may, what it drops and how much it receives. It
 /// writes the files that `serving` names, one of which shows the size of the book's file,
@@ -66,8 +75,8 @@ pub struct Errors<E: Drop> {
 ///
 /// # Errors
 ///
-/// `CannotBind`, and `NoMemory` if there is no memory for datagrams or names. The book and the
-/// output are then unchanged. `Store(Unavailable)` if the book was found shut or stuck, which ends
+/// `CannotBind`, and `NoMemory` if there is no memory for datagrams or names: that of the sockets
+/// for reports before that of the desk's. The book and the output are then unchanged. `Store(Unavailable)` if the book was found shut or stuck, which ends
 /// the turns: whoever started the program must start it again. `CannotWrite` if the output failed,
 /// before the first turn or after the last one.
 pub fn run_serve<
@@ -89,6 +98,7 @@ pub fn run_serve<
 ) -> Result<Status, Fault>
     requires turns { serving.now.turns < 2 ^ 63 }
     requires days { IfSome serving.now.oldest_report (λ days. days ≤ 36500) }
+    requires reports { AreReports serving.now.listening around.reports }
     ensures done { IfOk result (λ status. status ≡ Status.Done) }
     ensures serves { RunsServer B.Book ⟦<Sockets<'r, R> as Exchange>⟧
         R.was_put (λ away s. IsBoundTo serving.now.listening s.event_loop.datagrams.sockets.items
@@ -98,6 +108,7 @@ pub fn run_serve<
         (W.contents output.old) (W.contents output.new) result book.old book.new }
 {
     let Surroundings {
+        reports,
         source,
         errors: Errors { drops, notices, .. },
     } = around;
@@ -107,7 +118,7 @@ pub fn run_serve<
     let files = files_to_write(runtime, alloc, telling, &gauges, database, noted)?;
     let WrittenFiles { balances, counts } = files;
     let names = BookNames::new(runtime, alloc, database)?;
-    let sockets = bound(runtime, alloc, &serving.listening)?.silenced_by(gauges.away());
+    let sockets = bound(runtime, alloc, &serving.listening, reports)?.silenced_by(gauges.away());
     let noted = Shared::new(&notices);
     let begun = first_rounds(alloc, source, balances, names, config, book, &gauges, noted);
     let watcher = Watcher {
@@ -260,27 +271,59 @@ fn balances_file<'r, R: ReplacesFiles>(
     }
 }
 
-// Binds the sockets at the requested addresses and ports.
+/// Binds the sockets for reports at the requested addresses and port.
+pub fn bind_reports<R: Net>(
+    runtime: &R,
+    alloc: Global,
+    listening: &Listening,
+) -> Result<Datagrams, Fault>
+    ensures { AreReports listening.now result }
+{
+    let addresses = match addresses_of(alloc, &listening.addresses) {
+        Ok(addresses) => addresses,
+        Err(fault) => return Err(fault),
+    };
+    match Datagrams::bind(runtime, alloc, &addresses, listening.radius_port) {
+        Ok(datagrams) => Ok(datagrams),
+        Err(error) => Err(fault_of(&error)),
+    }
+}
+
+// The sockets for reports, with the desk's, which is bound at the requested address and port.
 fn bound<'r, R: Net + Clock>(
     runtime: &'r R,
     alloc: Global,
     listening: &Listening,
+    reports: Result<Datagrams, Fault>,
 ) -> Result<Sockets<'r, R>, Fault>
+    requires { AreReports listening.now reports }
     ensures fresh { IfOk result (λ s. (s.turns ≡ 0) × (s.failures ≡ 0)) }
     ensures bound { IfOk result (λ s. IsBoundTo listening.now
         s.event_loop.datagrams.sockets.items s.event_loop.desk.door.address
         s.event_loop.desk.door.port) }
     ensures why { IfErr result IsUnbound }
 {
-    let addresses = addresses_of(alloc, &listening.addresses)?;
+    let datagrams = match reports {
+        Ok(datagrams) => datagrams,
+        Err(fault) => return Err(fault),
+    };
     let Some(desk) = address_of(listening.desk_address.as_str()) else {
         return Err(Fault::CannotBind);
     };
-    let (radius_port, desk_port) = (listening.radius_port, listening.desk_port);
-    match Sockets::bind(runtime, alloc, &addresses, desk, radius_port, desk_port) {
+    match Sockets::over(runtime, alloc, datagrams, desk, listening.desk_port) {
         Ok(sockets) => Ok(sockets),
-        Err(error) if error.kind() == ErrorKind::OutOfMemory => Err(Fault::NoMemory),
-        Err(_) => Err(Fault::CannotBind),
+        Err(error) => Err(fault_of(&error)),
+    }
+}
+
+// Why a socket could not be bound.
+fn fault_of(error: &io::Error) -> Fault
+    ensures { IsUnbound result }
+{
+    if error.kind() == ErrorKind::OutOfMemory {
+        Fault::NoMemory
+    } else {
+        Fault::CannotBind
     }
 }
 

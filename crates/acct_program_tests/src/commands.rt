@@ -9,8 +9,13 @@ const UPLOAD: &str = "voucher,account,sum\nV-1,al,500\nV-2,bo,300\nV-1,al,501\n"
 
 const BALANCES: &str = "account,balance,overrun\nal,500,0\nbo,300,0\n";
 
+const TWO_PLANS: &str = "class,block,unit,count\ndefault,1000000,5,both\ngold,1048576,10,both\n";
+
+const THREE_PLANS: &str = "class,block,unit,count\ndefault,1000000,5,both\n\
+    gold,1048576,10,both\nsilver,1000000,7,both\n";
+
 // A site with its book, from its first command to the last.
-static LIFE: [Step; 21] = [
+static LIFE: [Step; 23] = [
     Step::Sites("life"),
     Step::Comes(
         "check --config life.toml",
@@ -77,10 +82,21 @@ static LIFE: [Step; 21] = [
         "",
         (Status::Unavailable, "", "db: PlansDiffer\n"),
     ),
+    // What the book keeps, whatever plan waits in the configuration or is missing there.
+    Step::Comes(
+        "plans --config life-more.toml --db life-book --list",
+        "",
+        (Status::Done, TWO_PLANS, ""),
+    ),
     Step::Comes(
         "plans --config life-more.toml --db life-book",
         "",
         (Status::Done, "added 1\n", ""),
+    ),
+    Step::Comes(
+        "plans --config life-other.toml --db life-book --list",
+        "",
+        (Status::Done, THREE_PLANS, ""),
     ),
     Step::Comes(
         "plans --config life-more.toml --db life-book",
@@ -212,12 +228,17 @@ const FIRST_ROWS: &str = "\
     1700000007, 2, 1, x'62', x'0a000008');";
 
 // An older book, before and after it is made one of today's.
-static OLDER: [Step; 19] = [
+static OLDER: [Step; 20] = [
     Step::Sites("older"),
     Step::Does("older-book", Deed::Alter(OLD_TABLES)),
     Step::Does("older-book", Deed::Alter(FIRST_ROWS)),
     Step::Comes(
         "check --config older.toml --db older-book",
+        "",
+        (Status::Unavailable, "", "db: WrongSchema\n"),
+    ),
+    Step::Comes(
+        "plans --config older.toml --db older-book --list",
         "",
         (Status::Unavailable, "", "db: WrongSchema\n"),
     ),

@@ -7,7 +7,7 @@ use std::test::Fail;
 // A text, and what is printed for its first fault.
 type Wrong = (&'static str, &'static str);
 
-static WRONG: [Wrong; 26] = [
+static WRONG: [Wrong; 30] = [
     (
         "[[client]]\nname = 'a\n",
         "explained: f line 2: this is not TOML: invalid string\n",
@@ -15,7 +15,8 @@ static WRONG: [Wrong; 26] = [
     ("", "explained: f: no [[plan]] has the class default\n"),
     (
         "\"na\\ns\" = 1",
-        "explained: f: \"na\\ns\" is no name: there are [[client]], [[plan]] and [[key]]\n",
+        "explained: f: \"na\\ns\" is no name: there are [[client]], [[plan]], [[key]] \
+         and [stamp]\n",
     ),
     (
         "[client]\nname = 'a'\n",
@@ -33,7 +34,7 @@ static WRONG: [Wrong; 26] = [
     (
         "\n[[client]]\nname = 'a'\naddress = '1.2.3.4'\nport = 1\n",
         "explained: f line 2: \"port\" is no name of a [[client]], \
-         which has name, address and secret\n",
+         which has name, address and secret, and perhaps stamped, proxy and plan\n",
     ),
     (
         "[[client]]\nname = 'a'\naddress = '1.2.3.4'\nsecret = 's'\n\n  [[ client ]] # the next\n\
@@ -115,17 +116,37 @@ static WRONG: [Wrong; 26] = [
     ),
     (
         "[[plan]]\nclass = 'default'\nblock = 1\nunit = 0\n[[key]]\ntoken = 'abcdefghijklmnop'\n",
-        "explained: f line 5: this [[key]] has neither account nor cashier\n",
+        "explained: f line 5: this [[key]] has none of account, cashier and logins\n",
     ),
     (
         "[[plan]]\nclass = 'default'\nblock = 1\nunit = 0\n[[key]]\ntoken = 'abcdefghijklmnop'\n\
          account = 'al'\ncashier = true\n",
-        "explained: f line 5: this [[key]] has both account and cashier, and is to have one\n",
+        "explained: f line 5: this [[key]] has more than one of account, cashier and logins\n",
     ),
     (
         "[[plan]]\nclass = 'default'\nblock = 1\nunit = 0\n[[key]]\ntoken = 'abcdefghijklmnop'\n\
          account = 'al'\n[[key]]\ntoken = 'abcdefghijklmnop'\naccount = 'bo'\n",
         "explained: f line 8: this [[key]] has the token of the one at line 5\n",
+    ),
+    (
+        "[[plan]]\nclass = 'default'\nblock = 1\nunit = 0\n[[key]]\ntoken = 'abcdefghijklmnop'\n\
+         logins = false\n",
+        "explained: f line 5: logins of this [[key]] is true, without quotes, where the key asks \
+         what a login may use\n",
+    ),
+    (
+        "[stamp]\nsecret = '0123456789abcde'\n[[plan]]\nclass = 'default'\nblock = 1\nunit = 0\n",
+        "explained: f: a secret of [stamp] has 16 to 64 octets\n",
+    ),
+    (
+        "[stamp]\nsecret = '0123456789abcdef'\nnew = 'a'\n",
+        "explained: f: [stamp] has secret, perhaps old, and no other name\n",
+    ),
+    (
+        "[[plan]]\nclass = 'default'\nblock = 1\nunit = 0\n[[client]]\nname = 'a'\n\
+         address = '1.2.3.4'\nsecret = 's'\nstamped = true\n",
+        "explained: f line 5: the logins of this [[client]] are stamped, and there is no [stamp] \
+         with a secret\n",
     ),
 ];
 

@@ -23,7 +23,7 @@ enum Asked {
 // What is done with which file, and what is printed.
 type Row = (Asked, &'static str, &'static str);
 
-static ROWS: [Row; 18] = [
+static ROWS: [Row; 21] = [
     (
         Asked::Config,
         "acct_explain_test/site",
@@ -53,6 +53,11 @@ static ROWS: [Row; 18] = [
     ),
     (
         Asked::Unopened,
+        "acct_explain_test/empty",
+        "explained: acct_explain_test/empty: it is an empty file, and init makes a book in it\n",
+    ),
+    (
+        Asked::Unopened,
         "acct_explain_test/text",
         "explained: acct_explain_test/text: it is no SQLite database\n",
     ),
@@ -78,6 +83,19 @@ static ROWS: [Row; 18] = [
         "acct_explain_test/one",
         "explained: acct_explain_test/one: frame 1 of its log is damaged, and 1 commit ends there or \
          behind it: restore a copy, or give --lose-damaged-commits, which loses them\n",
+    ),
+    (
+        Asked::Unopened,
+        "acct_explain_test/spilt",
+        "explained: acct_explain_test/spilt: frame 1 of its log is damaged, and this log shows no lost \
+         commit: a killed sqlite3 leaves that, and so does a lost block: restore a copy, or give \
+         --lose-damaged-commits to go on\n",
+    ),
+    (
+        Asked::Unmade,
+        "acct_explain_test/spilt",
+        "explained: acct_explain_test/spilt: frame 1 of its log is damaged, and this log shows no lost \
+         commit\n",
     ),
     (
         Asked::Unmade,
@@ -121,17 +139,19 @@ static ROWS: [Row; 18] = [
 ];
 
 // The files that these rows name.
-static FILES: [Step; 10] = [
+static FILES: [Step; 12] = [
     Step::Does(
         "acct_explain_test/site",
         Deed::Write(b"# plans\n[[plan]]\nclass = 'a'\nblock = 1\nunit = -1\n"),
     ),
+    Step::Does("acct_explain_test/empty", Deed::Write(b"")),
     Step::Does("acct_explain_test/text", Deed::Write(&[b'-'; 200])),
     Step::Does("acct_explain_test/two", Deed::Write(&[b'-'; 200])),
     Step::Does("acct_explain_test/hurt", Deed::Write(&[b'-'; 200])),
     Step::Does("acct_explain_test/hurt-wal", Deed::Log([0; 8], 2)),
     Step::Does("acct_explain_test/one-wal", Deed::Log(SUM, 1)),
     Step::Does("acct_explain_test/torn-wal", Deed::Log(SUM, 2)),
+    Step::Does("acct_explain_test/spilt-wal", Deed::Spilt(SUM)),
     Step::Does("acct_explain_test/lost-wal", Deed::Log(SUM, 3)),
     Step::Does(
         "acct_explain_test/sums",

@@ -17,13 +17,16 @@ const TAKING: &[&str] = &[
 const CHANGING: &[&str] = &[
     "migrate --config slip.toml --db slip-book",
     "plans --config slip.toml --db slip-book",
+    "plans --config slip.toml --db slip-book --list",
     "forward --config slip.toml --db slip-book",
 ];
 
+const EMPTY: Wanted<'static> = (Status::Unavailable, "", "db: NotABook\n");
+
 // A name with no file behind it makes none. A file of few octets is not opened, nor is an empty one
-// next to a log that has more than its header. An empty file alone is an empty database to each
-// command, and becomes a book only by `init`.
-static SLIPS: [Step; 20] = [
+// next to a log that has more than its header. An empty file alone is no book to each command, stays
+// empty, and becomes a book only by `init`.
+static SLIPS: [Step; 23] = [
     Step::Sites("slip"),
     Step::Come(TAKING, SHUT),
     Step::Come(CHANGING, SHUT),
@@ -41,7 +44,10 @@ static SLIPS: [Step; 20] = [
     Step::Come(CHANGING, SHUT),
     Step::Is("slip-book", Look::Has(b"")),
     Step::Does("slip-book-wal", Deed::Remove),
-    Step::Come(TAKING, (Status::Unavailable, "", "db: NotABook\n")),
+    Step::Come(TAKING, EMPTY),
+    Step::Come(CHANGING, EMPTY),
+    Step::Is("slip-book", Look::Has(b"")),
+    Step::Is("slip-book-wal", Look::Absent),
     Step::Comes("init --config slip.toml --db slip-book", "", MADE),
     Step::Comes("check --config slip.toml --db slip-book", "", SIZES),
 ];
@@ -95,6 +101,7 @@ const OPENING: &[Row] = &[
     ),
     (("migrate --config hurt.toml --db hurt-book", ""), SHUT),
     (("plans --config hurt.toml --db hurt-book", ""), SHUT),
+    (("plans --config hurt.toml --db hurt-book --list", ""), SHUT),
     (("forward --config hurt.toml --db hurt-book", ""), SHUT),
     (
         (

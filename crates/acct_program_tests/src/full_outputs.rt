@@ -27,5 +27,8 @@ fn a_full_output_is_told(rt: HostRuntime) -> Result<(), Fail> {
     assert!(rt; init_ended(&rt, 10)? == Status::Done);
     // One plan more, which is printed as `added 1`, in a line of eight octets.
     assert!(rt; ended(&rt, "plans --config full-more.toml --db full-book", 7)? == Status::Refused);
+    let list = "plans --config full.toml --db full-book --list";
+    assert!(rt; ended(&rt, list, 88)? == Status::Refused);
+    assert!(rt; ended(&rt, list, 89)? == Status::Done);
     Ok(())
 }

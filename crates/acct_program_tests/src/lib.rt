@@ -25,6 +25,8 @@ mod files;
 #[cfg(test)]
 mod full_outputs;
 #[cfg(test)]
+mod listed_plans;
+#[cfg(test)]
 mod log_damage;
 #[cfg(test)]
 mod looking;

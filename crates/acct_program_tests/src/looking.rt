@@ -63,6 +63,14 @@ const LOOKS: &[Row] = &[
         ("plans --config look-other.toml --db look-book", ""),
         (Status::Unavailable, "", "db: PlansDiffer\n"),
     ),
+    (
+        ("plans --config look-other.toml --db look-book --list", ""),
+        (
+            Status::Done,
+            "class,block,unit,count\ndefault,1000000,5,both\ngold,1048576,10,both\n",
+            "",
+        ),
+    ),
 ];
 
 // A book of two accounts is made and closed, and three commits are left in its log.

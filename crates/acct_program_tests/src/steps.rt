@@ -42,6 +42,8 @@ pub enum Deed {
     Flip(usize),
     /// It becomes a log with this sum of its header, and so many commits, which are damaged.
     Log([u8; 8], u8),
+    /// It becomes a log with this sum of its header, and a frame of no commit, which is damaged.
+    Spilt([u8; 8]),
 }
 
 /// How a file is to be.
@@ -113,7 +115,8 @@ fn does(rt: &HostRuntime, name: &str, deed: Deed) -> Result<(), Fail> {
         Deed::Alter(statements) => alter(rt, name, statements),
         Deed::AlterLog(statements) => alter_log(rt, name, statements),
         Deed::Flip(place) => flip(rt, name, place),
-        Deed::Log(sum, commits) => write_log(rt, name, sum, commits),
+        Deed::Log(sum, commits) => write_log(rt, name, sum, commits, 1),
+        Deed::Spilt(sum) => write_log(rt, name, sum, 1, 0),
         Deed::Write(octets) => Ok(fs::write(rt, name, octets)?),
         Deed::Folder => Ok(fs::create_dir(rt, name)?),
         Deed::RemoveFolder => Ok(fs::remove_dir(rt, name)?),
@@ -136,15 +139,22 @@ fn flip(rt: &HostRuntime, name: &str, place: usize) -> Result<(), Fail> {
     Ok(fs::write(rt, name, octets.as_slice())?)
 }
 
-// Writes a log of so many commits of one page each. Each frame breaks its own sum.
-fn write_log(rt: &HostRuntime, name: &str, sum: [u8; 8], commits: u8) -> Result<(), Fail> {
+// Writes a log of so many frames, each of which says that it leaves so many pages, or that it ends no
+// commit. Each frame breaks its own sum.
+fn write_log(
+    rt: &HostRuntime,
+    name: &str,
+    sum: [u8; 8],
+    frames: u8,
+    pages: u8,
+) -> Result<(), Fail> {
     let mut log = Vec::new(rt.alloc());
     // The version 3007000, pages of 512 octets, and the salts 1 and 2.
     log.extend_from_slice(&[0x37, 0x7f, 6, 0x82, 0, 45, 226, 24, 0, 0, 2, 0, 0, 0, 0, 0])?;
     log.extend_from_slice(&[0, 0, 0, 1, 0, 0, 0, 2])?;
     log.extend_from_slice(&sum)?;
-    for _ in 0..commits {
-        log.extend_from_slice(&[0, 0, 0, 1, 0, 0, 0, 1, 0, 0, 0, 1, 0, 0, 0, 2])?;
+    for _ in 0..frames {
+        log.extend_from_slice(&[0, 0, 0, 1, 0, 0, 0, pages, 0, 0, 0, 1, 0, 0, 0, 2])?;
         log.extend_from_slice(&[7; 520])?;
     }
     Ok(fs::write(rt, name, log.as_slice())?)

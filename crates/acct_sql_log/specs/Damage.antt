@@ -24,14 +24,14 @@ pub record IsFrameDamage (log : List ℕ) (frame commits : ℕ) : Type 0 where
   pub answered : IsSynced log (frame - 1) ⊎ IsFollowed log (frame - 1) (frame_count log)
   pub counted : commits ≡ commits_from log frame (frame_count log)
 
--- Each whole frame holds, but the log ends before a commit does that was answered. What is missing
--- counts as the next frame, and as the end of that one commit.
+-- Each whole frame holds, but the log ends before a commit does that was answered, if the book's
+-- store wrote it. What is missing counts as the next frame. No commit is shown to end there.
 pub record IsCutShort (log : List ℕ) (frame commits : ℕ) : Type 0 where
   pub sized : IsPageSize (page_size log)
   pub hold : (link : ℕ) → link ≤ frame_count log → Holds log link
   pub answered : IsCutOff log
   pub missing : frame ≡ frame_count log + 1
-  pub one : commits ≡ 1
+  pub none : commits ≡ 0
 
 -- what the damage of a log is
 abbrev pub IsDamage : List ℕ → Damage → Type 0

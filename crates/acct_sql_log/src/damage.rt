@@ -10,8 +10,9 @@ pub enum Damage {
         /// The number of the frame that breaks the chain, from 1, or of the first one that is not
         /// whole.
         frame: u64,
-        /// How many commits end at it or behind it, by the marks of the frames. Of a log that was
-        /// cut short it is 1.
+        /// How many commits end at it or behind it, by the marks of the frames. If it is none, the
+        /// log shows no lost commit: SQLite leaves such a log if it is killed in a large write or
+        /// rolls it back. So does whoever loses the block with a commit's end.
         commits: u64,
     },
 }

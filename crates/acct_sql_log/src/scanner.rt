@@ -154,7 +154,7 @@ impl Scanner {
         if self.is_cut_off(rest) {
             Some(Damage::Frame {
                 frame: self.taken + 1,
-                commits: 1,
+                commits: 0,
             })
         } else {
             None

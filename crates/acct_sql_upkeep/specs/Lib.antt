@@ -1,2 +1,3 @@
 pub mod Add
+pub mod List
 pub mod inner

@@ -73,8 +73,11 @@ pub fn examine<S: Alter>(conn: &mut Connection<S>, plans: &Plans) -> Result<(), 
     }
 }
 
-// Whether a database with the tables of a book is the book of these plans.
-fn examine_book<S: Alter>(conn: &mut Connection<S>, plans: &[Plan]) -> Result<(), SqlBookError>
+/// Whether a database with the tables of a book is the book of these plans.
+pub(crate) fn examine_book<S: Alter>(
+    conn: &mut Connection<S>,
+    plans: &[Plan],
+) -> Result<(), SqlBookError>
     requires { IsIdleBook S.Store conn.old }
     ensures rows { Examines S.Store conn.old conn.new (HasRowsOf plans.now) result }
     ensures refused { is_sound_at S.Store conn.new

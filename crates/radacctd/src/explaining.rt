@@ -42,6 +42,7 @@ pub(crate) fn explain_run<
         return;
     }
     let ended = outcome.ended;
+    let is_unopened = matches!(&outcome.left, Left::Nothing);
     if let Err(fault) = ended {
         explain_fault(runtime, &order.job, fault, errors);
     }
@@ -53,7 +54,8 @@ pub(crate) fn explain_run<
         let what = Explained::Opened { file };
         explain(runtime, runtime.alloc(), what, errors);
     }
-    if ended == Err(Fault::CannotOpen) {
+    let is_none = ended == Err(Fault::Store(StoreFault::NotABook)) && is_unopened;
+    if ended == Err(Fault::CannotOpen) || is_none {
         if let Some(what) = unopened(order) {
             explain(runtime, runtime.alloc(), what, errors);
         }

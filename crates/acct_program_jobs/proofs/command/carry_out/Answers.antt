@@ -1,6 +1,6 @@
 use Rattle.std.proofs.Common.{◌∙◌, sym, None}
 use Rattle.acct_program_jobs.proofs.command.carry_out.Goals as goal
-use Rattle.acct_program_jobs.proofs.command.carry_out.Goals.{in-Feed, in-Check, in-Book, in-Init, in-Serve, in-Import, in-Export, in-Migrate, in-AddPlans, in-Forward}
+use Rattle.acct_program_jobs.proofs.command.carry_out.Goals.{in-Feed, in-Check, in-Book, in-Init, in-Serve, in-Import, in-Export, in-Migrate, in-AddPlans, in-ListPlans, in-Forward}
 
 pub returns-clause-does : goal.returns-clause-does
 returns-clause-does g c = rw c.told.ensures.same (elim c.match-order.branch [
@@ -27,6 +27,7 @@ returns-clause-does g c = rw c.told.ensures.same (elim c.match-order.branch [
     | in-Export w' ↦ rw (w'.in-Export.is, w'.outcome-is) w'.export.ensures.does
     | in-Migrate w' ↦ rw (w'.in-Migrate.is, w'.outcome-is) w'.make-in-Migrate.ensures.does
     | in-AddPlans w' ↦ rw (w'.in-AddPlans.is, w'.outcome-is) w'.make-in-AddPlans.ensures.does
+    | in-ListPlans w' ↦ rw (w'.in-ListPlans.is, w'.outcome-is) w'.list_plans.ensures.does
     | in-Forward w' ↦ rw (w'.in-Forward.is, w'.outcome-is) (
       w'.read_clock-clock.result.moment,
       w'.read_clock-clock.result.written_at,
