@@ -1,0 +1,20 @@
+"""What the features share, and how a command says why it did not do all."""
+
+import contextlib
+
+
+class Failed(Exception):
+    """Why not all was done. Whoever gave the command is told so, and it ends with the status."""
+
+    status = 1
+
+
+@contextlib.contextmanager
+def told(kind, before, *faults, after=""):
+    """Raises a fault of a kind in the place of some, or ends by `fail`: what could not be done, and
+    the reason that they give.
+    """
+    try:
+        yield
+    except faults or OSError as why:
+        raise kind(f"{before}{getattr(why, 'strerror', None) or why}{after}") from None

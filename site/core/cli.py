@@ -1,0 +1,62 @@
+"""Runs a command of a feature: `radacctl COMMAND`. Each option has a text."""
+
+import argparse
+import importlib
+import sqlite3
+import sys
+
+from radacctd_site.core import Failed, features
+
+
+def confirm(question, is_sure):
+    """Ends unless a person says y, or has given --yes."""
+    if is_sure:
+        return
+    if not sys.stdin.isatty():
+        raise Failed(f"{question} Nobody is there to answer: give --yes.")
+    print(f"{question} [y/N] ", end="", flush=True)
+    if sys.stdin.readline().strip().lower() not in ("y", "yes", "j", "ja", "o", "oui"):
+        raise Failed("nothing was done")
+
+
+def parser(name, module):
+    it = argparse.ArgumentParser(
+        prog=f"radacctl {name}", description=module.__doc__, allow_abbrev=False,
+        formatter_class=argparse.RawDescriptionHelpFormatter)
+    module.arguments(it)
+    return it
+
+
+def manual(name):
+    """What the manual page says of a command: its text, and each act with what it takes."""
+    module, lines = module_of(name), []
+    for found in parser(name, module)._actions:
+        for act in getattr(found, "_choices_actions", ()):
+            one = found.choices[act.dest]
+            words = " ".join(["radacctl", name, act.dest, *spelled(one)])
+            lines += ["", f"    {words}", f"        {act.help}"]
+            lines += [f"        {'/'.join(it.option_strings) or it.dest}: {it.help}"
+                      for it in one._actions if it.help and it.dest != "help"]
+    return "\n".join([module.__doc__.rstrip(), *lines])
+
+
+def spelled(it):
+    """What an act takes, as its usage line has it."""
+    for found in it._actions:
+        word = " ".join([*found.option_strings[:1],
+                         *([] if found.nargs == 0 else [found.dest.upper()])])
+        if found.dest != "help":
+            yield f"[{word}]" if not found.required or found.nargs in ("?", "*") else word
+
+
+def module_of(name):
+    return importlib.import_module(features.commands()[name][1])
+
+
+def main(name, words):
+    """The status of a command. Failed says why not all was done."""
+    module = module_of(name)
+    try:
+        return module.main(parser(name, module).parse_args(words))
+    except sqlite3.Error as why:
+        raise Failed(f"site.db cannot be used: {why}") from None

@@ -1,0 +1,167 @@
+"""The desk: the keys that it takes, how a voucher is sent to it, and what its answers mean."""
+
+import argparse
+import http.client
+import json
+import os
+import re
+import stat
+
+from radacctd_site.core import Failed, told
+
+# The number of a voucher, and a key.
+NUMBER, TOKEN = re.compile("[A-Z0-9-]{1,32}"), re.compile("[A-Za-z0-9-]{16,64}")
+TOKEN_RULE = "16 to 64 of A-Z a-z 0-9 and -"
+# An account as the desk takes it: plain characters, and % with two digits for any other octet.
+ACCOUNT = re.compile("(?:[ -$&-~]|%[0-9A-F]{2}){1,253}")
+CASHIER_KEY = "/etc/radacctd-cashier.key"
+# The desk of a machine, and the outbox of a pair, which gives each voucher to both books; and what a
+# machine of a pair has.
+HERE, OUTBOX = ("127.0.0.1", 8066), ("127.0.0.1", 8067)
+# The longest list of what an account has, in octets.
+LONGEST_LIST = 1 << 26
+PAIR = "/etc/default/radacctd-pair"
+# What became of a voucher.
+NEW, REPEAT, DIFFERS, LIMIT, NO_KEY = "new", "repeat", "differs", "limit", "no key"
+# The book could not say, or a proxy before it; and what is no answer of a desk.
+AWAY, STRANGE = "away", "strange"
+ANSWERS = {
+    (201, "result", "new"): NEW,
+    (200, "result", "repeat"): REPEAT,
+    (409, "error", "voucher differs"): DIFFERS,
+    (422, "error", "balance limit"): LIMIT,
+}
+
+
+class WrongKey(Failed):
+    """Why a file has no key that may be used. It has no octet of the file."""
+
+
+def usual():
+    """Where this machine sells unless it is told where."""
+    return OUTBOX if os.path.exists(PAIR) else HERE
+
+
+def place(text):
+    """An address and a port, as an argument has them."""
+    host, mark, port = text.rpartition(":")
+    if not mark or not re.fullmatch("[0-9]{1,5}", port):
+        raise argparse.ArgumentTypeError(f"{text} is no A.B.C.D:PORT")
+    return host, int(port)
+
+
+def meaning(status, said):
+    """What became of a voucher, by the status and the object that was answered."""
+    for (number, member, value), found in ANSWERS.items():
+        if status == number and isinstance(said, dict) and said.get(member) == value:
+            return found
+    if status in (401, 403):
+        return NO_KEY
+    return AWAY if status in (429, 502, 503, 504) else STRANGE
+
+
+def object_of(body):
+    """The object of an answer, or None."""
+    try:
+        return json.loads(body)
+    except (ValueError, RecursionError):
+        return None
+
+
+def credit(where, key, account, total, number, **how):
+    """Sends a voucher to a desk: what became of it, and the status and the body of the answer."""
+    body = json.dumps({"account": account, "sum": total, "voucher": number})
+    status, said = ask(where, "POST", "/topups", key, body, **how)
+    return meaning(status, object_of(said)), status, said
+
+
+def ask(where, method, path, key, body=None, patience=30, connect=None, most=1 << 20,
+        before=lambda: None):
+    """The status and the body that the desk at an address and a port gave. It has `connect` seconds
+    for a connection; `before` runs once it has one, and got nothing yet. OSError says why there is
+    no answer, and has no word of what came.
+    """
+    caller = http.client.HTTPConnection(*where, timeout=connect or patience)
+    try:
+        caller.connect()
+        caller.sock.settimeout(patience)
+        before()
+        caller.request(method, path, body, {"Desk-Key": key, "Connection": "close"})
+        response = caller.getresponse()
+        said = response.read(most)
+        if response.length:
+            # The desk was killed, say. It is no answer, and nobody knows what became of it.
+            raise ConnectionError("half an answer")
+        return response.status, said
+    except http.client.HTTPException as why:
+        raise ConnectionError(type(why).__name__) from None
+    finally:
+        caller.close()
+
+
+def secret_in(path, may_read=lambda status: False):
+    """The octets of a file that only its owner may read, unless `may_read` says so."""
+    with told(WrongKey, f"cannot read {path}: "), open(path, "rb") as file:
+        found = os.fstat(file.fileno())
+        octets = file.read(65_536)
+    is_open = stat.S_IMODE(found.st_mode) & 0o077 or found.st_uid not in (0, os.getuid())
+    if is_open and not may_read(found):
+        raise WrongKey(f"others may read {path}, or it is another user's: chmod 600 {path}")
+    return octets
+
+
+def keys_in(path, most, may_read=lambda status: False):
+    """The keys of a file, one on a line."""
+    lines = secret_in(path, may_read).decode("ascii", "replace").split("\n")
+    named = [(at, line.strip()) for at, line in enumerate(lines, 1) if line.strip()]
+    if not named:
+        raise WrongKey(f"{path} has no key: {TOKEN_RULE}")
+    for count, (at, line) in enumerate(named, 1):
+        # One key is on the first line.
+        if count > most or most == 1 < at:
+            raise WrongKey(f"line {at} of {path} is one too many: it has one key on one line")
+        if not TOKEN.fullmatch(line):
+            raise WrongKey(f"line {at} of {path} is no key: {TOKEN_RULE}")
+    return [line for _, line in named]
+
+
+def readers():
+    """Where guests' questions go, one desk after the other: in a pair both machines have a book."""
+    try:
+        with open(PAIR, encoding="ascii", errors="replace") as file:
+            found = dict(re.findall(r"(?m)^RADACCTD_(OWN|OTHER)=([0-9.]+)$", file.read()))
+    except OSError:
+        return [HERE]
+    return [(found[it], HERE[1]) for it in ("OWN", "OTHER") if it in found]
+
+
+def read(places, path, key):
+    """The status and the object that one of some desks answers to a question; 0 if none does."""
+    for where in places:
+        try:
+            status, body = ask(where, "GET", path, key, patience=Desk.PATIENCE,
+                               connect=Desk.CONNECT, most=LONGEST_LIST)
+        except OSError:
+            continue
+        found = object_of(body)
+        if status != 503 and (status != 200 or isinstance(found, dict)):
+            return status, found
+    return 0, None
+
+
+class Desk:
+    """The book's desk at an address, for who has a cashier's key."""
+
+    # In seconds: for a connection, and for an answer. nginx waits for 20.
+    CONNECT, PATIENCE = 2, 6
+
+    def __init__(self, where, key):
+        self.where, self.key = where, key
+
+    def credit(self, account, total, number):
+        """What became of a voucher. One without an answer may have been credited."""
+        try:
+            return credit(self.where, self.key, account, total, number, connect=self.CONNECT,
+                          patience=self.PATIENCE)[0]
+        except OSError:
+            return AWAY

@@ -1,0 +1,20 @@
+"""What the core itself adds: logins of those who work there, and what is done each minute."""
+
+from radacctd_site.core import acts, people
+from radacctd_site.core.features import ANYBODY, STAFF, Page
+
+COMMANDS = {
+    "person": ("makes, lists and ends logins of cashiers and operators", "person"),
+    "minute": ("sends again what the book has not answered, for the timer", "minute"),
+}
+PAGES = [
+    Page("GET", "/login/", "pages:login_form", ANYBODY),
+    Page("POST", "/login/", "pages:log_in", ANYBODY),
+    Page("POST", "/logout/", "pages:log_out", STAFF),
+    Page("GET", "/password/", "pages:password_form", STAFF),
+    Page("POST", "/password/", "pages:new_password", STAFF),
+    Page("GET", "/site.css", "pages:style", ANYBODY),
+]
+TABLES = acts.TABLES + people.TABLES
+PACKAGES = ["gunicorn", "libjs-bootstrap5", "python3-bottle", "python3-jinja2"]
+UNITS = ["radacctd-site.socket", "radacctd-minute.timer"]

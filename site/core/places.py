@@ -1,0 +1,46 @@
+"""Where the kit has its files, and as which user it works. A test names others by the environment."""
+
+import os
+import pwd
+
+from radacctd_site.core import Failed, desk, money
+
+USER = "radacctd-site"
+USUAL = "/var/lib/radacctd-site"
+FOLDER = os.environ.get("RADACCTD_SITE", USUAL)
+DATABASE = os.path.join(FOLDER, "site.db")
+SETTINGS = os.environ.get("RADACCTD_SETTINGS", money.SETTINGS)
+# The key of a cashier for the book's desk. systemd hands it to the service, whose user may not read
+# the file.
+KEY = os.path.join(os.environ.get("CREDENTIALS_DIRECTORY", "/etc"), "radacctd-site.key")
+
+
+def book():
+    """The book's desk, with the key."""
+    where = os.environ.get("RADACCTD_DESK")
+    [key] = desk.keys_in(KEY, 1, lambda _: "CREDENTIALS_DIRECTORY" in os.environ)
+    return desk.Desk(desk.place(where) if where else desk.usual(), key)
+
+
+def readers():
+    """Where guests' questions go."""
+    where = os.environ.get("RADACCTD_DESK")
+    return [desk.place(where)] if where else desk.readers()
+
+
+def settings():
+    return money.settings_in(SETTINGS)
+
+
+def become_user():
+    """Leaves root: what is in the user's folder is not for root to open."""
+    os.umask(0o077)
+    if os.getuid() != 0 or FOLDER != USUAL:
+        return
+    try:
+        found = pwd.getpwnam(USER)
+    except KeyError:
+        raise Failed(f"there is no user {USER}: radacctl setup makes it") from None
+    os.initgroups(USER, found.pw_gid)
+    os.setgid(found.pw_gid)
+    os.setuid(found.pw_uid)

@@ -1,0 +1,97 @@
+"""What tests of features share: a site in a folder, a book in memory, and a browser."""
+
+import contextlib
+import io
+import json
+import os
+import shutil
+import tempfile
+import unittest
+import urllib.parse
+from unittest import mock
+
+from radacctd_site.core import desk, live, people, places, store, web
+from radacctd_site.core.features import CASHIER, OPERATOR
+
+PASSWORD = "a-long-enough-one"
+
+
+class Book:
+    """Takes a number once, for one account and one sum, as the book does."""
+
+    def __init__(self):
+        self.credits, self.is_away, self.asked = {}, False, []
+
+    def credit(self, account, total, number):
+        self.asked.append(number)
+        if self.is_away:
+            return desk.AWAY
+        if number in self.credits:
+            return desk.REPEAT if self.credits[number] == (account, total) else desk.DIFFERS
+        self.credits[number] = account, total
+        return desk.NEW
+
+
+class Browser(live.Browser):
+    """A browser of an application in this process."""
+
+    def __init__(self, app, address="192.0.2.1"):
+        super().__init__(address)
+        self.app = app
+
+    def ask(self, method, path, fields=None, **more):
+        path, _, query = path.partition("?")
+        body = urllib.parse.urlencode(fields or {}).encode()
+        environ = {
+            "REQUEST_METHOD": method, "PATH_INFO": path, "QUERY_STRING": query,
+            "HTTP_COOKIE": self.cookie(), "CONTENT_TYPE": "application/x-www-form-urlencoded",
+            "CONTENT_LENGTH": str(len(body)), "wsgi.input": io.BytesIO(body),
+            "wsgi.errors": io.StringIO(), "SERVER_NAME": "a.example", "SERVER_PORT": "443",
+            "wsgi.url_scheme": "http", "HTTP_HOST": "a.example", "SERVER_PROTOCOL": "HTTP/1.1",
+            "HTTP_X_REAL_IP": self.address, **more}
+        said = []
+        parts = self.app(environ, lambda status, headers, *_: said.append((status, headers)))
+        self.text = b"".join(parts).decode()
+        status, self.headers = said[-1]
+        self.keep_cookies()
+        return int(status.split()[0])
+
+
+class Site(unittest.TestCase):
+    """A site in a folder of its own; `book` is what it sells by."""
+
+    def setUp(self):
+        self.folder = tempfile.mkdtemp()
+        self.addCleanup(shutil.rmtree, self.folder)
+        settings = os.path.join(self.folder, "settings.json")
+        with open(settings, "w", encoding="utf-8") as file:
+            json.dump({"url": "https://a.example", "name": "Hotel Łódź", "currency": "EUR",
+                       "decimals": 2}, file)
+        self.book = Book()
+        for name, value in (("DATABASE", os.path.join(self.folder, "site.db")),
+                            ("FOLDER", self.folder), ("SETTINGS", settings),
+                            ("book", lambda: self.book)):
+            patch = mock.patch.object(places, name, value)
+            patch.start()
+            self.addCleanup(patch.stop)
+        self.db = self.enterContext(store.opened())
+        self.app = web.made()
+
+    def browser(self, role=None, **more):
+        """A browser of somebody who has logged in, or of nobody."""
+        found = Browser(self.app, **more)
+        if role:
+            people.put(self.db, role, role, PASSWORD)
+            self.assertEqual(found.post("/login/", name=role, password=PASSWORD), 303)
+        return found
+
+    def run_it(self, name, *words):
+        """What a command of radacctl prints."""
+        from radacctd_site.core import cli
+
+        with contextlib.redirect_stdout(io.StringIO()) as said:
+            cli.main(name, list(words))
+        return said.getvalue()
+
+
+STAFF = (CASHIER, OPERATOR)

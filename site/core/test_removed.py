@@ -1,0 +1,44 @@
+"""Each feature may be removed: what is left works, and nothing else names it."""
+
+import glob
+import os
+import shutil
+import subprocess
+import tempfile
+import unittest
+
+from radacctd_site.core import features
+
+# Runs the tests of who may ask for which page, and shows the commands, of a kit in a folder.
+CHECK = """
+import sys, unittest
+from radacctd_site.core import cli, features, web
+names = ["radacctd_site.core.test_core." + it for it in ("Roles", "Forms", "Languages")]
+suite = unittest.defaultTestLoader.loadTestsFromNames(names)
+done = unittest.TextTestRunner().run(suite)
+for name in features.commands():
+    cli.parser(name, cli.module_of(name))
+sys.exit(not done.wasSuccessful())
+"""
+
+
+class Removed(unittest.TestCase):
+    def test_the_rest_works_without_each_feature(self):
+        names = sorted(set(features.features()) - {"core"})
+        self.assertTrue(names)
+        for name in names:
+            with self.subTest(name), tempfile.TemporaryDirectory() as folder:
+                kit = os.path.join(folder, features.NAME)
+                shutil.copytree(features.TOP, kit, ignore=shutil.ignore_patterns(
+                    name, "__pycache__"))
+                done = subprocess.run(["/usr/bin/python3", "-Bc", CHECK], cwd=folder,
+                                      capture_output=True, text=True)
+                self.assertEqual(done.returncode, 0, done.stderr[-2000:])
+
+    def test_the_core_names_no_feature(self):
+        for path in glob.glob(f"{features.TOP}/core/*"):
+            if os.path.isfile(path):
+                with open(path, encoding="utf-8") as file:
+                    text = file.read()
+                for name in set(features.features()) - {"core"}:
+                    self.assertNotIn(f"{features.NAME}.{name}", text, path)

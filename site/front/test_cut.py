@@ -1,0 +1,167 @@
+"""Cut-off: who is overdrawn is disconnected, by nobody's leave but the desk's. Over the program or its stand-in."""
+import hashlib
+import socket
+import subprocess
+import threading
+import time
+import unittest
+
+import cut
+import test_lab as lab
+import test_radius as radius
+from test_radius import CLASS, ID, NAS_NAME, START, STATION, STATUS, USER
+
+
+class AccessServer(threading.Thread):
+    """Takes Disconnect-Requests on a port and keeps what they had."""
+
+    def __init__(self, answers=True):
+        super().__init__(daemon=True)
+        self.socket = socket.socket(socket.AF_INET, socket.SOCK_DGRAM)
+        self.socket.bind(("127.0.0.1", 0))
+        self.address = "127.0.0.1:%d" % self.socket.getsockname()[1]
+        self.answers, self.asked, self.seen = answers, [], []
+        self.start()
+
+    def run(self):
+        while True:
+            packet, where = self.socket.recvfrom(4096)
+            digest = hashlib.md5(packet[:4] + bytes(16) + packet[20:] + b"coa-secret-1").digest()
+            assert packet[0] == 40 and digest == packet[4:20]
+            self.asked.append(dict(radius.unpacked(packet[20:])))
+            if len(self.seen) < 3:
+                self.seen.append(subprocess.run(["ps", "-eo", "args"], capture_output=True).stdout)
+            if self.answers:
+                head = bytes([41, packet[1], 0, 20])
+                self.socket.sendto(
+                    head + hashlib.md5(head + packet[4:20] + b"coa-secret-1").digest(), where
+                )
+
+
+class Cut(unittest.TestCase):
+    def setUp(self):
+        self.lab = lab.Lab()
+        self.lab.start_book()
+        self.lab.start_front()
+        print(f"{self.id().partition('.')[2]}: over {lab.OVER}", flush=True)
+        self.lab.group("fast", Class="gold")
+        for name in ("al", "bo"):
+            self.lab.user(name, "fast")
+            self.lab.sell(name, 100)
+        self.lab.user("bo", Cleartext_Password="right")
+        for name, text in (("key", "desk-key-logins-0001\n"), ("coa", "coa-secret-1\n")):
+            with open(self.lab.path(name), "w", encoding="ascii") as file:
+                file.write(text)
+
+    def tearDown(self):
+        self.lab.end()
+
+    def open(self, session, octets, name="al", device="ap-1", status=START):
+        given = radius.first(self.lab.login(name), CLASS) or self.given
+        self.given = given
+        pairs = [
+            (STATUS, status),
+            (ID, session),
+            (USER, name),
+            (42, octets),
+            (NAS_NAME, device),
+            (CLASS, given),
+            (STATION, f"02-{session}"),
+        ]
+        self.assertTrue(self.lab.report(pairs))
+
+    def site(self, **servers):
+        clients = {it["client"] for it in self.lab.sessions()}
+        by_name = {it: next(c for c in clients if c.endswith(it)) for it in servers}
+        return {
+            "desk": f"127.0.0.1:{self.lab.desk}",
+            "key_file": self.lab.path("key"),
+            "kept": self.lab.kept,
+            "access_server": [
+                {
+                    "client": by_name[name],
+                    "address": it.address,
+                    "secret_file": self.lab.path("coa"),
+                    "user_name": name == "ap-2",
+                }
+                for name, it in servers.items()
+            ],
+        }
+
+    def test_who_is_overdrawn(self):
+        one, two = AccessServer(), AccessServer()
+        for session in ("s1", "s2"):
+            self.open(session, 100)
+        self.open("s3", 100, "bo")
+        self.open("s4", 100, "bo", "ap-2")
+        now, site = int(time.time()), None
+        site = self.site(**{"ap-1": one, "ap-2": two})
+        self.assertEqual(cut.cut(site, now), 0)
+        self.open("s1", 20 * lab.MEBIBYTE, status=3)
+        self.assertEqual(cut.cut(site, now), 2)
+        self.assertEqual(sorted(it[ID] for it in one.asked), [b"s1", b"s2"])
+        self.assertEqual({it[STATION] for it in one.asked}, {b"02-s1", b"02-s2"})
+        self.assertEqual(two.asked, [])
+        self.assertNotIn(b"coa-secret-1", b"".join(one.seen))
+        self.assertIn(b"disconnect", b"".join(one.seen))
+        self.assertEqual(cut.cut(site, now + 2000), 0)
+        self.lab.sell("al", 1000)
+        self.assertEqual(cut.cut(site, now), 0)
+        self.open("s4", 20 * lab.MEBIBYTE, "bo", "ap-2", status=3)
+        self.assertEqual(cut.cut(site, now), 2)
+        self.assertEqual([it.get(USER) for it in two.asked], [b"bo"])
+        self.assertEqual(len(one.asked), 3)
+
+    def test_many_sessions(self):
+        one = AccessServer()
+        for n in range(300):
+            self.open(f"s{n}", 100)
+        self.open("s0", 20 * lab.MEBIBYTE, status=3)
+        start = time.time()
+        self.assertEqual(cut.cut(self.site(**{"ap-1": one}), int(start)), 300)
+        print("300 sessions took", round(time.time() - start, 1), "s", flush=True)
+        self.assertEqual(len({it[ID] for it in one.asked}), 300)
+
+    def test_odd_texts(self):
+        """What a device names itself is no line of another request."""
+        one = AccessServer()
+        self.open("s1", 20 * lab.MEBIBYTE)
+        for n, name in enumerate(
+            (b'x"\nUser-Name = "bo', b"0x616c", b"%{User-Name}\\", b"\0", b"a,b = c")
+        ):
+            pairs = [
+                (STATUS, START),
+                (ID, name),
+                (USER, "al"),
+                (NAS_NAME, "ap-1"),
+                (CLASS, self.given),
+                (STATION, name),
+            ]
+            self.assertTrue(self.lab.report(pairs), n)
+        self.assertEqual(cut.cut(self.site(**{"ap-1": one}), int(time.time())), 6)
+        self.assertEqual(
+            {it[ID] for it in one.asked},
+            {b"s1", b'x"\nUser-Name = "bo', b"0x616c", b"%{User-Name}\\", b"\0", b"a,b = c"},
+        )
+        self.assertTrue(all(set(it) == {ID, STATION, 55} for it in one.asked))
+
+    def test_a_silent_access_server_holds_up_no_other(self):
+        one, two = AccessServer(answers=False), AccessServer()
+        for n in range(30):
+            self.open(f"s{n}", 100)
+        self.open("t", 20 * lab.MEBIBYTE, device="ap-2")
+        start = time.time()
+        self.assertEqual(cut.cut(self.site(**{"ap-1": one, "ap-2": two}), int(start)), 31)
+        self.assertLess(time.time() - start, cut.LONGEST + 5)
+        self.assertEqual(len(two.asked), 1)
+
+    def test_the_desk_is_away(self):
+        self.open("s1", 100)
+        site = self.site(**{"ap-1": AccessServer()})
+        self.lab.stop_book()
+        with self.assertRaises(OSError):
+            cut.cut(site, int(time.time()))
+
+
+if __name__ == "__main__":
+    unittest.main(verbosity=1)

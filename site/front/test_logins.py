@@ -1,0 +1,609 @@
+"""Who is let in, who pays, how much: attacks on a front over the program or its stand-in.
+Needs root, freeradius, freeradius-rest, freeradius-utils, eapoltest."""
+import hashlib
+import os
+import re
+import sqlite3
+import threading
+import time
+import unittest
+
+import test_expanded as expanded
+import test_lab as lab
+import test_radius as radius
+from test_lab import MEBIBYTE
+
+WAYS = (
+    ("PEAP", "auth=MSCHAPV2"),
+    ("PEAP", "auth=GTC"),
+    ("TTLS", "auth=PAP"),
+    ("TTLS", "auth=CHAP"),
+    ("TTLS", "auth=MSCHAP"),
+    ("TTLS", "auth=MSCHAPV2"),
+    ("TTLS", "autheap=MSCHAPV2"),
+    ("TTLS", "autheap=GTC"),
+)
+
+
+def stamp(reply):
+    """PLAN, LOGIN and NAME of a reply's Class, or None."""
+    it = [v for k, v in reply.pairs if k == radius.CLASS]
+    return it[0].decode("latin-1").rsplit(";", 1)[0] if len(it) == 1 else None
+
+
+def stamps(text):
+    """The stamp of eapol_test's Access-Accept, or the word FAILURE."""
+    if text.strip().splitlines()[-1] != "SUCCESS":
+        assert "EAP-Success" not in text.rpartition("code=3 (Access-Reject)")[2]
+        return "FAILURE"
+    assert "MPPE keys OK: 1  mismatch: 0" in text, "keys"
+    it = re.findall(
+        r"Attribute 25 \(Class\).*\n\s+Value: ([0-9a-f]+)",
+        text.rpartition("code=2 (Access-Accept)")[2],
+    )
+    assert len(it) == 1, it
+    return bytes.fromhex(it[0]).decode("latin-1").rsplit(";", 1)[0]
+
+
+class OneLab(unittest.TestCase):
+    settings = {}
+
+    @classmethod
+    def setUpClass(cls):
+        cls.lab = lab.Lab(**cls.settings)
+        cls.lab.start_book()
+        cls.lab.start_front()
+        print(f"{cls.__name__}: over {lab.OVER}", flush=True)
+        it = cls.lab
+        it.group("fast", Class="gold", Mikrotik_Rate_Limit="10M/10M")
+        it.group("up", Class="up")
+        it.group("down", Class="down")
+        it.group("free", Class="free")
+        it.user("al", "fast")
+        it.sell("al", 105)
+        it.sell("stranger", 105)
+
+    @classmethod
+    def tearDownClass(cls):
+        cls.lab.end()
+
+
+class Proved(OneLab):
+    """The name that was proved pays, and no other."""
+
+    def test_passwords(self):
+        it = self.lab
+        self.assertEqual(stamp(it.login()), "gold;;al")
+        self.assertEqual(stamp(it.login(chap=True)), "gold;;al")
+        self.assertEqual(it.radclient('User-Name = "al"', 'MS-CHAP-Password = "right"'), "accept")
+        for chap in (False, True):
+            self.assertEqual(it.login(password="wrong", chap=chap).code, 3)
+        self.assertEqual(it.radclient('User-Name = "al"', 'MS-CHAP-Password = "wrong"'), "reject")
+        self.assertEqual(it.login("nobody").code, 3)
+        self.assertEqual(it.login("AL").code, 3)
+        self.assertEqual(it.login(more=[(7, 1)]).code, 2)
+
+    def test_tunnels(self):
+        for method, phase2 in WAYS:
+            with self.subTest(method=method, phase2=phase2):
+                self.assertEqual(
+                    stamps(self.lab.eap(method, "al", "somebody-else", "right", phase2)), "gold;;al"
+                )
+                self.assertEqual(
+                    stamps(self.lab.eap(method, "al", "al", "wrong", phase2)), "FAILURE"
+                )
+                self.assertEqual(
+                    stamps(self.lab.eap(method, "poor", "al", "right", phase2)), "FAILURE"
+                )
+
+    def test_the_name_in_the_accept_is_who_pays(self):
+        text = self.lab.eap("PEAP", "al", "somebody-else", "right", "auth=MSCHAPV2").rpartition(
+            "(Access-Accept)"
+        )[2]
+        self.assertEqual(re.findall(r"\(User-Name\).*\n\s+Value: '(.*)'", text), ["al"])
+        self.assertIn(b"10M/10M".hex(), text)
+
+    def test_certificates(self):
+        it = self.lab
+        it.user("stranger", Cleartext_Password="x")
+        it.users.execute("DELETE FROM radusergroup WHERE username = 'stranger'")
+        it.user("stranger", "up")
+        self.assertEqual(
+            stamps(it.eap("TLS", "somebody-else", password=None, cert="al")), "gold;;al"
+        )
+        self.assertEqual(
+            stamps(it.eap("TLS", "al", password=None, cert="stranger")), "up;;stranger"
+        )
+        it.users.execute("DELETE FROM radcheck WHERE username = 'stranger'")
+        it.users.execute("DELETE FROM radusergroup WHERE username = 'stranger'")
+        self.assertEqual(stamps(it.eap("TLS", "al", password=None, cert="stranger")), "FAILURE")
+
+    def test_no_certificate_within_a_tunnel(self):
+        for outer in ("al", "anon"):
+            self.assertEqual(
+                stamps(self.lab.eap("PEAP", "al", outer, None, "auth=TLS", None, "stranger")),
+                "FAILURE",
+            )
+            self.assertEqual(
+                stamps(self.lab.eap("TTLS", "al", outer, None, "autheap=TLS", None, "stranger")),
+                "FAILURE",
+            )
+
+    def test_no_eap_without_a_tunnel(self):
+        for method in ("MD5", "MSCHAPV2", "GTC", "PWD"):
+            self.assertEqual(stamps(self.lab.eap(method, "al")), "FAILURE")
+
+    def test_expanded_types(self):
+        """A device that writes its types in the expanded form logs in as itself, or not at all."""
+        it = self.lab
+        port, between = it.logins, expanded.Between(it.logins)
+        try:
+            it.logins = between.port
+            for method, phase2 in WAYS[:3]:
+                self.assertIn(
+                    stamps(it.eap(method, "al", "somebody-else", "right", phase2)),
+                    ("gold;;al", "FAILURE"),
+                )
+                self.assertEqual(stamps(it.eap(method, "poor", "al", "right", phase2)), "FAILURE")
+            self.assertIn(
+                stamps(it.eap("TLS", "somebody-else", password=None, cert="al")),
+                ("gold;;al", "FAILURE"),
+            )
+        finally:
+            it.logins = port
+        self.assertGreater(between.changed, 20)
+
+    def test_a_resumed_tunnel_has_an_inner_login(self):
+        text = self.lab.eap("PEAP", "al", "somebody-else", "right", "auth=MSCHAPV2", again=1)
+        accepts = text.split("code=2 (Access-Accept)")[1:]
+        self.assertEqual(len(accepts), 2)
+        for it in accepts:
+            self.assertIn(b"gold;;al;".hex(), it)
+
+    def test_accept_without_proof(self):
+        it = self.lab
+        it.user("open", "free", Auth_Type="Accept")
+        self.assertEqual(it.login("open", "x").code, 3)
+        self.assertEqual(stamps(it.eap("TTLS", "open", "al", "x", "auth=PAP")), "FAILURE")
+
+    def test_a_packet_names_no_attribute_of_ours(self):
+        """Front-Payer and its kin in no form of a vendor's, an extended or an unknown attribute."""
+        it = self.lab
+        for more in (
+            [(26, bytes([0, 0, 44, 80, 11, 5]) + b"xyz")],
+            [(241, b"\x01al")],
+            [(245, bytes([26, 0, 0, 0, 0, 11]))],
+        ):
+            self.assertEqual(stamp(it.login(more=more)), "gold;;al")
+
+    def test_two_names(self):
+        self.assertEqual(stamp(self.lab.login(more=[(radius.USER, "stranger")])), "gold;;al")
+        self.assertEqual(self.lab.login("poor", more=[(radius.USER, "al")]).code, 3)
+
+    def test_a_class_of_the_access_server_counts_for_nothing(self):
+        self.assertEqual(
+            stamp(self.lab.login(more=[(radius.CLASS, b"free;;al;" + b"0" * 32)])), "gold;;al"
+        )
+
+    def test_two_names_are_one_account(self):
+        self.lab.user("al@campus.example", "fast", Cleartext_Password="right", Front_Payer="al")
+        self.assertEqual(stamp(self.lab.login("al@campus.example")), "gold;;al")
+        self.assertEqual(
+            stamps(self.lab.eap("PEAP", "al@campus.example", "x@y", "right", "auth=MSCHAPV2")),
+            "gold;;al",
+        )
+
+    def test_an_access_server_where_nobody_pays(self):
+        it = self.lab
+        for name in ("al", "poor"):
+            reply = it.login(name, source="127.0.0.5")
+            self.assertEqual((reply.code, stamp(reply)), (2, None))
+        self.assertEqual(it.login("al", "wrong", source="127.0.0.5").code, 3)
+
+    def test_a_login_each(self):
+        one, two = (stamp(self.lab.login(source="127.0.0.4")) for _ in range(2))
+        self.assertRegex(one, "^gold;[0-9a-f]{16};al$")
+        self.assertNotEqual(one, two)
+
+
+class Names(OneLab):
+    NAMES = {
+        "Müller": "M%C3%BCller",
+        "al ": "al%20",
+        "0x616c": "0x616c",
+        "room 12b": "room%2012b",
+        "a-b.c_d": "a-b.c_d",
+        "100% x": None,
+        "a&login=zz": None,
+        "it's": None,
+        "a/../b?x#y": None,
+        "x%{User-Name}": None,
+        "a\\b": None,
+        "..": None,
+        ".": None,
+        'q"q': None,
+        "%61l": None,
+        "al\n": None,
+        "al;": None,
+    }
+
+    def test_names(self):
+        for name, shown in self.NAMES.items():
+            self.lab.user(name, "free", Cleartext_Password="right")
+            reply = self.lab.login(name)
+            with self.subTest(name=name):
+                self.assertEqual(stamp(reply), shown and f"free;;{shown}")
+                self.assertEqual(radius.first(reply, radius.USER), shown and name.encode())
+
+    def test_octets(self):
+        for name in (b"al\0", b"al\0x", b"\0al", b"", b"M\xfcller", b"\xff\xfe", b"al" * 126):
+            self.assertIn(self.lab.login(name).code, (3, None), name)
+        self.assertEqual(self.lab.login("al").code, 2)
+
+    def test_stations(self):
+        for station in (
+            b"..",
+            b".",
+            b"../../..",
+            b"a/b?c",
+            b"\0",
+            b"x%{User-Name}",
+            b"\xff" * 253,
+            b"' OR 1",
+        ):
+            self.assertEqual(
+                stamp(self.lab.login(more=[(radius.STATION, station)])), "gold;;al", station
+            )
+
+
+class Plans(OneLab):
+    """Plan, name and quota come from the desk."""
+
+    def quota(self, source, name="al"):
+        vendors = (radius.MIKROTIK, radius.CHILLISPOT, radius.PFSENSE)
+        pairs = self.lab.login(name, source=source).pairs
+        return {
+            k: int.from_bytes(v, "big")
+            for k, v in pairs
+            if isinstance(k, tuple) and k[0] in vendors and k[1] != 8
+        }
+
+    def test_quotas(self):
+        it, most = self.lab, (1 << 32) - 1
+        for name, sum_ in (
+            ("up", 3 * 5000),
+            ("down", 4 * 10),
+            ("free", 0),
+            ("rich", 10 * 5000),
+            ("giant", 10**12),
+        ):
+            it.user(
+                name, {"rich": "fast", "giant": "fast"}.get(name, name), Cleartext_Password="right"
+            )
+            if sum_:
+                it.sell(name, sum_)
+        mikrotik, chilli, pfsense = radius.MIKROTIK, radius.CHILLISPOT, radius.PFSENSE
+        octets = 5000 * MEBIBYTE
+        both = {(mikrotik, 17): octets & most, (mikrotik, 18): octets >> 32}
+        giant = 10**11 * MEBIBYTE
+        rows = (
+            ("al", "127.0.0.1", {(mikrotik, 17): 10 * MEBIBYTE, (mikrotik, 18): 0}),
+            ("rich", "127.0.0.1", both),
+            ("giant", "127.0.0.1", {(mikrotik, 17): giant & most, (mikrotik, 18): giant >> 32}),
+            ("up", "127.0.0.1", {(mikrotik, 1): octets & most, (mikrotik, 14): octets >> 32}),
+            ("down", "127.0.0.1", {(mikrotik, 2): 10 * MEBIBYTE, (mikrotik, 15): 0}),
+            ("al", "127.0.0.2", {(chilli, 3): 10 * MEBIBYTE}),
+            ("rich", "127.0.0.2", {(chilli, 3): most}),
+            ("up", "127.0.0.2", {(chilli, 1): most}),
+            ("down", "127.0.0.2", {(chilli, 2): 10 * MEBIBYTE}),
+            ("al", "127.0.0.3", {(pfsense, 3): 10 * MEBIBYTE}),
+            ("down", "127.0.0.3", {(pfsense, 3): 10 * MEBIBYTE}),
+            ("rich", "127.0.0.3", {(pfsense, 3): most}),
+            ("free", "127.0.0.1", {}),
+            ("free", "127.0.0.2", {}),
+            ("free", "127.0.0.3", {}),
+            ("al", "127.0.0.4", {}),
+        )
+        for name, source, expected in rows:
+            with self.subTest(name=name, source=source):
+                self.assertEqual(self.quota(source, name), expected)
+
+    def test_odd_plans(self):
+        it = self.lab
+        for name, shown in (("gäste", "default"), ("x;;y", "default"), ("a b/..", "default")):
+            it.group("odd " + name, Class=name)
+            it.user(f"odd{len(name)}", "odd " + name, Cleartext_Password="right")
+            it.sell(f"odd{len(name)}", 5000)
+            self.assertEqual(stamp(it.login(f"odd{len(name)}")), f"{shown};;odd{len(name)}", name)
+            it.users.execute("DELETE FROM radcheck WHERE username LIKE 'odd%'")
+            it.users.execute("DELETE FROM radusergroup WHERE username LIKE 'odd%'")
+
+    def test_many_devices(self):
+        it = self.lab
+        it.group("two", [("Front-Devices", "2")], Class="free")
+        it.user("fam", "two", Cleartext_Password="right")
+        a, b, c = ([(radius.STATION, f"02-00-00-00-00-0{i}")] for i in range(3))
+        for n, station in enumerate((a, b)):
+            given = radius.first(it.login("fam", more=station), radius.CLASS)
+            self.assertTrue(
+                it.report(
+                    [
+                        (radius.STATUS, 1),
+                        (radius.ID, f"d{n}"),
+                        (radius.USER, "fam"),
+                        (radius.CLASS, given),
+                        *station,
+                        (radius.NAS_NAME, "ap"),
+                    ]
+                )
+            )
+        self.assertEqual(it.login("fam", more=a).code, 2)
+        refused = it.login("fam", more=c)
+        self.assertEqual(
+            (refused.code, radius.first(refused, 18)), (3, b"Too many devices use this login now.")
+        )
+        self.assertTrue(
+            it.report(
+                [
+                    (radius.STATUS, 2),
+                    (radius.ID, "d0"),
+                    (radius.USER, "fam"),
+                    (radius.CLASS, given),
+                    *a,
+                    (radius.NAS_NAME, "ap"),
+                ]
+            )
+        )
+        self.assertEqual(it.login("fam", more=c).code, 2)
+
+    def test_whose_rows_count(self):
+        """The name's own before its groups', and of these the first."""
+        it = self.lab
+        it.group("one", [("Front-Slow", "free")], Class="up", Mikrotik_Rate_Limit="1M")
+        it.group(
+            "two", [("Front-Devices", "9")], Class="down", Mikrotik_Rate_Limit="2M", Filter_Id="two"
+        )
+        it.user("both", Cleartext_Password="right")
+        it.users.execute("INSERT INTO radusergroup VALUES ('both', 'two', 2), ('both', 'one', 1)")
+        it.sell("both", 1000)
+        self.assertEqual(stamp(it.login("both")), "up;;both")
+        self.assertEqual(radius.first(it.login("both"), (radius.MIKROTIK, 8)), b"1M")
+        self.assertEqual(radius.first(it.login("both"), 11), b"two")
+        it.row(it.users, "radreply", "both", "Class", "gold")
+        self.assertEqual(stamp(it.login("both")), "gold;;both")
+
+    def test_slow_in_place_of_the_end(self):
+        it = self.lab
+        it.group("dsl", [("Front-Slow", "crawl")], Class="gold", Mikrotik_Rate_Limit="50M/50M")
+        it.group("crawl", Class="free", Mikrotik_Rate_Limit="1M/1M")
+        it.user("ppp", "dsl", Cleartext_Password="right")
+        rate = lambda reply: radius.first(reply, (radius.MIKROTIK, 8))
+        slow = it.login("ppp", more=[(7, 1)])
+        self.assertEqual((stamp(slow), rate(slow)), ("free;;ppp", b"1M/1M"))
+        it.sell("ppp", 100)
+        fast = it.login("ppp", more=[(7, 1)])
+        self.assertEqual((stamp(fast), rate(fast)), ("gold;;ppp", b"50M/50M"))
+
+
+class Codes(OneLab):
+    CODE = "ABCDE-FGHJK-MNPQR"
+
+    def test_a_code_is_name_and_password(self):
+        it = self.lab
+        it.code(self.CODE, "t-1122aabb", "fast")
+        it.sell("t-1122aabb", 50)
+        for typed in (self.CODE, self.CODE.lower(), "ABCDEFGHJKMNPQR", "abcde fghjk mnpqr"):
+            for chap in (False, True):
+                self.assertEqual(
+                    stamp(it.login(typed, typed, chap=chap)), "gold;;t-1122aabb", typed
+                )
+            self.assertEqual(
+                it.radclient(f'User-Name = "{typed}"', f'MS-CHAP-Password = "{typed}"'), "accept"
+            )
+        self.assertEqual(
+            stamps(it.eap("PEAP", self.CODE, "x", self.CODE, "auth=MSCHAPV2")), "gold;;t-1122aabb"
+        )
+        self.assertEqual(
+            radius.first(it.login(self.CODE, self.CODE), (radius.MIKROTIK, 8)), b"10M/10M"
+        )
+        for name, password in (
+            (self.CODE, "x"),
+            (self.CODE, ""),
+            ("ABCDE-FGHJK-MNPQZ", "ABCDE-FGHJK-MNPQZ"),
+            ("al", self.CODE),
+        ):
+            self.assertEqual(it.login(name, password).code, 3)
+        digest = hashlib.sha256(b"key-of-codesABCDEFGHJKMNPQR").hexdigest()
+        self.assertEqual(it.login(digest, digest).code, 3)
+        self.assertEqual(it.login(digest, "").code, 3)
+        self.nothing_has(b"ABCDE", b"abcde")
+
+    def nothing_has(self, *texts):
+        for root, _, names in os.walk(self.lab.folder):
+            for name in names:
+                with open(os.path.join(root, name), "rb") as file:
+                    text = file.read()
+                for it in texts:
+                    if name != "eap.conf":
+                        self.assertNotIn(it, text, name)
+
+    def test_a_code_without_a_plan(self):
+        it = self.lab
+        it.code("AAAAA-AAAAA-AAAAA", "t-none", None)
+        it.sell("t-none", 5000)
+        self.assertEqual(it.login("AAAAA-AAAAA-AAAAA", "AAAAA-AAAAA-AAAAA").code, 3)
+
+    def test_a_name_like_a_code(self):
+        self.lab.user("ABCDEFGHJKMNPQX", "fast", Cleartext_Password="right")
+        self.lab.sell("ABCDEFGHJKMNPQX", 100)
+        self.assertEqual(stamp(self.lab.login("ABCDEFGHJKMNPQX")), "gold;;ABCDEFGHJKMNPQX")
+
+    def test_until_a_day(self):
+        it = self.lab
+        it.user("old", "free", Cleartext_Password="right", Expiration="Jan 01 2020 00:00:00")
+        it.user(
+            "new",
+            "free",
+            Cleartext_Password="right",
+            Expiration=time.strftime("%b %d %Y %H:%M:%S", time.localtime(time.time() + 1000)),
+        )
+        self.assertEqual(it.login("old").code, 3)
+        left = int.from_bytes(radius.first(it.login("new"), 27), "big")
+        self.assertTrue(980 <= left <= 1000, left)
+        it.code("BBBBB-BBBBB-BBBBB", "t-old", "free")
+        it.user(
+            hashlib.sha256(b"key-of-codes" + b"B" * 15).hexdigest(),
+            Expiration="Jan 01 2020 00:00:00",
+        )
+        self.assertEqual(it.login("BBBBB-BBBBB-BBBBB", "BBBBB-BBBBB-BBBBB").code, 3)
+
+    def test_from_the_first_login(self):
+        it = self.lab
+        it.group("day", [("Front-Valid", "3")], Class="gold")
+        it.user("first", "day", Cleartext_Password="right")
+        first = sqlite3.connect(os.path.join(it.kept, "first.db"), isolation_level=None)
+        self.assertEqual(it.login("first").code, 3)
+        self.assertEqual(it.login("first", "wrong").code, 3)
+        self.assertEqual(first.execute("SELECT * FROM first").fetchall(), [])
+        it.sell("first", 100)
+        self.assertEqual(int.from_bytes(radius.first(it.login("first"), 27), "big"), 3)
+        time.sleep(1.1)
+        self.assertIn(int.from_bytes(radius.first(it.login("first"), 27), "big"), (1, 2))
+        time.sleep(3)
+        self.assertEqual(it.login("first").code, 3)
+        first.execute("DROP TABLE first")
+        it.group("days", [("Front-Valid", "300")], Class="free")
+        it.user("other", "days", Cleartext_Password="right")
+        self.assertEqual(it.login("other").code, 3)
+
+    def test_tries(self):
+        """A thousand wrong passwords shut out their station alone."""
+        it, bad, good = self.lab, [(radius.STATION, "02-66")], [(radius.STATION, "02-77")]
+        seen = [it.login(password="wrong", more=bad) for _ in range(60)]
+        self.assertEqual({reply.code for reply in seen}, {3})
+        self.assertEqual(radius.first(seen[-1], 18), b"Please try again in some minutes.")
+        self.assertEqual(it.login(more=bad).code, 3)
+        self.assertEqual(it.login(more=good).code, 2)
+        self.assertEqual(it.login().code, 2)
+        for _ in range(30):
+            self.assertEqual(it.login(more=good).code, 2)
+
+
+class Store(OneLab):
+    """A store that cannot be asked lets nobody in."""
+
+    def test_a_renamed_table(self):
+        it = self.lab
+        for table in ("radcheck", "radreply", "radusergroup", "radgroupcheck", "radgroupreply"):
+            it.users.execute(f"ALTER TABLE {table} RENAME TO gone")
+            with self.subTest(table=table):
+                self.assertEqual(it.login().code, 3)
+                self.assertEqual(
+                    stamps(it.eap("PEAP", "al", "x", "right", "auth=MSCHAPV2")), "FAILURE"
+                )
+                self.assertEqual(stamps(it.eap("TLS", "x", password=None, cert="al")), "FAILURE")
+            it.users.execute(f"ALTER TABLE gone RENAME TO {table}")
+            self.assertEqual(it.login().code, 2)
+
+    def test_a_lock(self):
+        other = sqlite3.connect(self.lab.path("users.db"), isolation_level=None)
+        other.execute("BEGIN EXCLUSIVE")
+        start = time.time()
+        self.assertEqual(self.lab.login().code, 3)
+        self.assertLess(time.time() - start, 3)
+        other.execute("ROLLBACK")
+        self.assertEqual(self.lab.login().code, 2)
+
+    def test_a_damaged_file(self):
+        path = self.lab.path("users.db")
+        with open(path, "r+b") as file:
+            was = file.read()
+            file.seek(0)
+            file.write(b"x" * len(was))
+        self.assertEqual(self.lab.login().code, 3)
+        with open(path, "r+b") as file:
+            file.write(was)
+
+
+class Down(OneLab):
+    """Without an answer of the desk nobody is let in."""
+
+    def test_down(self):
+        it = self.lab
+        it.stop_book()
+        self.assertEqual(it.login().code, 3)
+        self.assertEqual(stamps(it.eap("PEAP", "al", "x", "right", "auth=MSCHAPV2")), "FAILURE")
+        self.assertEqual(stamps(it.eap("TLS", "x", password=None, cert="al")), "FAILURE")
+        it.start_book()
+        time.sleep(1.5)
+        self.assertEqual(it.login().code, 2)
+
+
+class Open(OneLab):
+    """With down_seconds who was proved is let in for so long, without a stamp."""
+
+    settings = {"down_seconds": 300}
+
+    def test_open(self):
+        it = self.lab
+        self.assertEqual(it.login("poor").code, 3)
+        it.stop_book()
+        for name in ("al", "poor"):
+            reply = it.login(name)
+            self.assertEqual((reply.code, stamp(reply)), (2, None))
+            self.assertEqual(int.from_bytes(radius.first(reply, 27), "big"), 300)
+            self.assertEqual(radius.first(reply, radius.USER), name.encode())
+        self.assertEqual(it.login("al", "wrong").code, 3)
+        text = it.eap("PEAP", "al", "x", "right", "auth=MSCHAPV2")
+        self.assertTrue(text.strip().endswith("SUCCESS"))
+        self.assertNotIn("(Class)", text.rpartition("(Access-Accept)")[2])
+        self.assertIn("'al'", text.rpartition("(Access-Accept)")[2])
+        it.start_book()
+        time.sleep(1.5)
+        self.assertEqual(stamp(it.login()), "gold;;al")
+        self.assertEqual(it.login("poor").code, 3)
+
+
+class Observed(OneLab):
+    """With observe everybody who was proved is let in, and stamped if there is money."""
+
+    settings = {"observe": "yes"}
+
+    def test_observed(self):
+        it = self.lab
+        self.assertEqual(stamp(it.login()), "gold;;al")
+        self.assertEqual(
+            [k for k, _ in it.login().pairs if isinstance(k, tuple)], [(radius.MIKROTIK, 8)]
+        )
+        self.assertEqual((it.login("poor").code, stamp(it.login("poor"))), (2, None))
+        self.assertEqual(it.login("poor", "wrong").code, 3)
+        self.assertEqual(it.login("nobody").code, 3)
+        it.stop_book()
+        self.assertEqual(it.login("poor").code, 2)
+
+
+class Locale(OneLab):
+    """A plan with other letters than ASCII's is one plan in each locale (seen: 11 of 18 sessions by default)."""
+
+    def test_locales(self):
+        it = self.lab
+        with open(it.path("site.toml"), "a", encoding="utf-8") as file:
+            file.write('[[plan]]\nclass = "gäste"\nblock = 1048576\nunit = 7\n')
+        it.stop_book()
+        it.add_plans()
+        it.start_book()
+        it.group("g", Class="gäste")
+        it.user("guest", "g", Cleartext_Password="right")
+        it.sell("guest", 70)
+        for name in ("C", "C.UTF-8", "de_DE.UTF-8"):
+            it.stop_front()
+            os.environ["LC_ALL"] = name
+            try:
+                it.start_front()
+            finally:
+                del os.environ["LC_ALL"]
+            self.assertEqual(stamp(it.login("guest")), "g%C3%A4ste;;guest", name)
+
+
+if __name__ == "__main__":
+    unittest.main(verbosity=1)

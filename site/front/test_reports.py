@@ -1,0 +1,377 @@
+"""Reports: answered means in the book. Attacks on a front over the program or its stand-in. Needs root."""
+import os
+import signal
+import subprocess
+import threading
+import time
+import unittest
+import urllib.parse
+
+import cut
+import test_lab as lab
+import test_radius as radius
+from test_lab import waited
+from test_radius import CLASS, ID, NAS_ADDRESS, NAS_NAME, ON, START, STATION, STATUS, STOP, USER
+
+BAD = [(42, 0xFFFFFFFF), (52, 0xFFFFFFFF)]
+
+
+def report(session, octets=1000, status=STOP, device="ap-1", more=(), user="al"):
+    return [(STATUS, status), (ID, session), (USER, user), (42, octets), (NAS_NAME, device), *more]
+
+
+def bad(session, device="ap-1", more=()):
+    """One that radacctd never takes: more octets than any session may have."""
+    return [(STATUS, STOP), (ID, session), (USER, "al"), *BAD, (NAS_NAME, device), *more]
+
+
+class OneLab(unittest.TestCase):
+    def setUp(self):
+        self.lab = lab.Lab()
+        self.lab.start_book()
+        self.lab.start_front()
+        print(f"{self.id().partition('.')[2]}: over {lab.OVER}", flush=True)
+        self.lab.sell("al", 10**6)
+        self.lab.group("fast", Class="gold")
+        self.lab.user("al", "fast")
+
+    def tearDown(self):
+        self.assertIsNone(self.lab.front.poll(), "FreeRADIUS ended by itself")
+        self.lab.end()
+
+    def given(self, name="al"):
+        return radius.first(self.lab.login(name), CLASS)
+
+    def rows(self):
+        """The rows of the book by the access server's own id."""
+        return {
+            urllib.parse.unquote_to_bytes(it["session"].rsplit("/", 2)[0]).decode("latin-1"): it
+            for it in self.lab.sessions()
+        }
+
+    def quick(self, pairs, tries=3):
+        """As a device that gives up after a second."""
+        return self.lab.report(pairs, wait=0.3, tries=tries)
+
+
+class Answers(OneLab):
+    def test_answered_means_in_the_book(self):
+        it = self.lab
+        self.assertTrue(it.report(report("s1")))
+        self.assertIn("s1", self.rows())
+        it.stop_book()
+        for n in range(5):
+            self.assertFalse(self.quick(report(f"down-{n}")))
+        waited(lambda: it.waiting() == 5)
+        self.assertEqual(it.waiting(), 5)
+        it.start_book()
+        self.assertTrue(waited(lambda: len(self.rows()) == 6))
+        self.assertTrue(waited(lambda: it.waiting() == 0))
+
+    def test_a_device_that_goes_on_is_answered_by_the_book(self):
+        it = self.lab
+        it.stop_book()
+        threading.Timer(6, it.start_book).start()
+        packet = radius.report_packet(report("again"), 9)
+        start = time.time()
+        self.assertEqual(radius.asked(it.reports, packet, tries=12, wait=1).code, 5)
+        self.assertLess(time.time() - start, 12)
+        self.assertEqual(it.waiting(), 0)
+
+    def test_a_book_that_hangs(self):
+        it = self.lab
+        it.book.send_signal(signal.SIGSTOP)
+        for n in range(10):
+            self.assertFalse(self.quick(report(f"hung-{n}")))
+        time.sleep(4)
+        it.book.send_signal(signal.SIGCONT)
+        self.assertTrue(waited(lambda: len(self.rows()) == 10))
+        self.assertEqual(it.balances()["al"], 10**6)
+
+    def test_a_restart_in_an_outage(self):
+        """A kept Accounting-On would close sessions that began since: the device sends it again."""
+        it, given = self.lab, self.given()
+        it.stop_book()
+        for status in (ON, 8, 9, 15, 99):
+            self.assertFalse(self.quick([(STATUS, status), (NAS_NAME, "ap-1"), (ID, "x")]))
+        self.assertFalse(self.quick(report("new", status=START, more=[(CLASS, given)])))
+        self.assertTrue(waited(lambda: it.waiting() == 1))
+        it.start_book()
+        self.assertTrue(waited(lambda: "new" in self.rows()))
+        time.sleep(3)
+        self.assertEqual([(key, row["state"]) for key, row in self.rows().items()], [("new", "open")])
+
+    def test_killed_in_an_outage(self):
+        it = self.lab
+        it.stop_book()
+        for n in range(10):
+            self.assertFalse(self.quick(report(f"killed-{n}")))
+        time.sleep(4)
+        it.front.kill()
+        it.front.wait()
+        it.start_front()
+        it.start_book()
+        self.assertTrue(waited(lambda: len(self.rows()) == 10, 30))
+
+    def test_a_full_disk(self):
+        """What cannot be kept was not answered either: the device sends it again."""
+        it = self.lab
+        waits = os.path.join(it.kept, "waits")
+        subprocess.run(
+            [
+                "mount",
+                "-t",
+                "tmpfs",
+                "-o",
+                "size=4k,mode=0700,uid=freerad,gid=freerad",
+                "none",
+                waits,
+            ],
+            check=True,
+        )
+        try:
+            it.stop_book()
+            answered = [
+                self.quick(report(f"full-{n}", more=[(18, b"x" * 200)] * 3), 1) for n in range(20)
+            ]
+            self.assertEqual(set(answered), {False})
+            time.sleep(4)
+            self.assertLess(it.waiting(), 20)
+            it.start_book()
+            for n in range(20):
+                self.assertTrue(it.report(report(f"full-{n}")))
+            self.assertTrue({f"full-{n}" for n in range(20)} <= set(self.rows()))
+        finally:
+            it.stop_front()
+            subprocess.run(["umount", waits], check=True)
+            it.start_front()
+
+
+class Refused(OneLab):
+    """A report that radacctd never takes holds up nobody."""
+
+    def test_six_stops_behind_one(self):
+        it = self.lab
+        it.stop_book()
+        self.quick(bad("bad"), 1)
+        time.sleep(0.2)
+        for n in range(6):
+            self.quick(report(f"behind-{n}"), 1)
+        self.assertTrue(waited(lambda: it.waiting() == 7))
+        it.start_book()
+        start = time.time()
+        self.assertTrue(it.report(report("live"), wait=1))
+        self.assertTrue(waited(lambda: len(self.rows()) == 7, 40))
+        self.assertLess(time.time() - start, 30)
+        self.assertEqual((it.waiting(), it.waiting("aside")), (0, 1))
+
+    def test_many_of_one_access_server(self):
+        it = self.lab
+        it.stop_book()
+        for n in range(12):
+            self.quick(bad(f"bad-{n}", "ap-bad", [(CLASS, b"debit")]), 1)
+        for n in range(6):
+            self.quick(report(f"good-{n}"), 1)
+        self.assertTrue(waited(lambda: it.waiting() == 18))
+        it.start_book()
+        start = time.time()
+        for n in range(20):
+            self.assertTrue(it.report(report(f"live-{n}"), wait=1))
+        self.assertTrue(waited(lambda: len(self.rows()) == 26, 200))
+        print(
+            "12 refused reports held up kept ones for", round(time.time() - start), "s", flush=True
+        )
+        self.assertEqual(it.waiting("aside"), 12)
+
+    def test_while_the_book_is_away_nothing_goes_aside(self):
+        it = self.lab
+        it.stop_book()
+        self.quick(report("waits"), 1)
+        time.sleep(30)
+        self.assertEqual((it.waiting(), it.waiting("aside")), (1, 0))
+        it.start_book()
+        self.assertTrue(waited(lambda: "waits" in self.rows()))
+
+    def test_what_went_aside_is_sent_again(self):
+        it, given = self.lab, self.given()
+        it.stop_book()
+        it.start_book(lab.free_port())
+        self.quick(report("later", 5 * lab.MEBIBYTE, more=[(CLASS, given)]), 1)
+        self.assertTrue(waited(lambda: it.waiting("aside") == 1, 40))
+        it.stop_book()
+        it.start_book()
+        cut.send_again(it.kept, time.time())
+        self.assertEqual(it.waiting("aside"), 1)
+        cut.send_again(it.kept, time.time() + 3700)
+        self.assertTrue(waited(lambda: "later" in self.rows(), 20))
+        self.assertEqual(it.balances()["al"], 10**6 - 50)
+
+    def test_after_a_day_it_stays(self):
+        it = self.lab
+        it.stop_book()
+        self.quick(bad("old", more=[(41, 90000)]), 1)
+        self.assertTrue(waited(lambda: it.waiting() == 1))
+        it.start_book()
+        self.assertTrue(waited(lambda: it.waiting("lost") == 1, 40))
+        self.assertEqual(it.waiting("aside"), 0)
+
+
+class Exact(OneLab):
+    """What is passed on, and what was kept, is what the device sent."""
+
+    ODD = {
+        "extended": [(241, b"\x63xyz")],
+        "long extended": [(245, b"\x63\0xyz")],
+        "vendor's": [(241, bytes([26, 0, 0, 1, 2, 3]) + b"abc")],
+        "short": [(26, b"\0\0\0\x09\x01")],
+        "octet 0": [(STATION, b"a\0b")],
+        "long": [(18, b"x" * 253)] * 8,
+        "quotes": [(STATION, b'a\\b"c\nUser-Name = "bo"')],
+        "%": [(STATION, b"x%{User-Name}%l")],
+        "%{": [(18, b"%{exec:/bin/false}")],
+        "0x": [(STATION, b"0x616c")],
+        "state": [(33, b"abc"), (33, b"d")],
+        "ahead": [(55, int(time.time()) + 1000)],
+        "behind": [(55, 1)],
+        "class": [(CLASS, b"")],
+        "class 0": [(CLASS, b"a\0b")],
+        "unknown": [(200, b"abc")],
+        "50%": [],
+        'a b/c\\d"e': [],
+        "100%{User-Name}": [],
+    }
+
+    def test_odd_attributes(self):
+        it = self.lab
+        given = self.given()
+        for name, more in self.ODD.items():
+            with self.subTest(name=name):
+                self.assertTrue(
+                    it.report(
+                        report("live " + name, more=[*more, (CLASS, given)], device="ap " + name),
+                        wait=1.5,
+                    )
+                )
+        it.stop_book()
+        for name, more in self.ODD.items():
+            self.quick(report("kept " + name, more=[*more, (CLASS, given)], device="ap " + name), 1)
+        self.assertTrue(waited(lambda: it.waiting() == len(self.ODD)))
+        it.start_book()
+        waited(lambda: it.waiting() == 0, 60)
+        rows = {(row["client"], key): row for key, row in self.rows().items()}
+        now = time.time()
+        for name in self.ODD:
+            devices = {client for (client, key) in rows if key in (f"live {name}", f"kept {name}")}
+            with self.subTest(name=name):
+                self.assertEqual(len(devices), 1, devices)
+                for kind in ("live", "kept"):
+                    row = rows[(*devices, f"{kind} {name}")]
+                    self.assertEqual(
+                        (row["account"], row["class"], row["total"]), ("al", "gold", "1000")
+                    )
+                    self.assertLess(abs(now - int(row["last"])), 60)
+
+    def test_a_wrong_size_is_not_taken(self):
+        self.assertFalse(
+            self.lab.report(
+                [(STATUS, STOP), (ID, "w"), (USER, "al"), (42, b"abc"), (NAS_NAME, "ap")], wait=1
+            )
+        )
+        self.assertEqual(self.rows(), {})
+
+    def test_a_clock_that_was_set_back(self):
+        it = self.lab
+        ahead = int(time.time()) + 5000
+        path = os.path.join(it.kept, "waits", "2026010100")
+        with open(os.path.join(it.kept, "new"), "w", encoding="ascii") as file:
+            file.write(
+                'Mon Nov 30 06:00:00 2026\n\tAcct-Status-Type = Stop\n\tAcct-Session-Id = 0x7331\n\tUser-Name = "al"\n'
+                f"\tAcct-Input-Octets = 1000\n\tNAS-IP-Address = 10.0.0.1\n\tTimestamp = {ahead}\n\n"
+            )
+        os.chmod(os.path.join(it.kept, "new"), 0o600)
+        os.chown(os.path.join(it.kept, "new"), *(os.stat(it.kept).st_uid,) * 2)
+        os.rename(os.path.join(it.kept, "new"), path)
+        self.assertTrue(waited(lambda: "s1" in self.rows()))
+        self.assertLess(abs(time.time() - int(self.rows()["s1"]["last"])), 30)
+
+    def test_an_outage_moves_no_moment(self):
+        it = self.lab
+        it.stop_book()
+        sent = time.time()
+        self.quick(report("early", more=[(41, 7)]), 1)
+        time.sleep(12)
+        it.start_book()
+        self.assertTrue(waited(lambda: "early" in self.rows()))
+        self.assertLess(abs(sent - 7 - int(self.rows()["early"]["last"])), 3)
+
+
+class Pays(OneLab):
+    """An access server cannot name a plan or a payer that nobody was given."""
+
+    def test_stamps(self):
+        it = self.lab
+        given, mib = self.given(), lab.MEBIBYTE
+        rows = (
+            ("right", [(CLASS, given)], "al", "gold"),
+            ("second", [(CLASS, b"x"), (CLASS, given)], "al", "gold"),
+            ("bare", [(CLASS, b"gold")], "nobody", "free"),
+            ("debit", [(CLASS, b"debit")], "nobody", "free"),
+            ("none", [], "nobody", "free"),
+            ("cut", [(CLASS, given[:-1])], "nobody", "free"),
+            ("long", [(CLASS, given + b"0")], "nobody", "free"),
+            ("other", [(CLASS, given.replace(b";al;", b";bo;"))], "nobody", "free"),
+            ("plan", [(CLASS, given.replace(b"gold;", b"up;"))], "nobody", "free"),
+            ("upper", [(CLASS, given.upper())], "nobody", "free"),
+        )
+        for name, more, _, _ in rows:
+            self.assertTrue(it.report(report(name, mib, more=more, user="nobody")))
+        found = self.rows()
+        for name, _, account, plan in rows:
+            self.assertEqual((found[name]["account"], found[name]["class"]), (account, plan), name)
+        self.assertEqual(it.balances()["al"], 10**6 - 20)
+
+    def test_the_outer_name_pays_nothing(self):
+        text = self.lab.eap("PEAP", "al", "somebody-else", "right", "auth=MSCHAPV2").rpartition(
+            "(Access-Accept)"
+        )[2]
+        given = bytes.fromhex(text.partition("(Class)")[2].partition("Value: ")[2].split()[0])
+        self.assertTrue(
+            self.lab.report(
+                report("eap", lab.MEBIBYTE, more=[(CLASS, given)], user="somebody-else")
+            )
+        )
+        self.assertEqual(self.rows()["eap"]["account"], "al")
+
+    def test_a_restart_closes_one_device(self):
+        it, given = self.lab, self.given()
+        for device in ("ap-1", "ap-2"):
+            self.assertTrue(
+                it.report(
+                    report("of " + device, status=START, device=device, more=[(CLASS, given)])
+                )
+            )
+        self.assertTrue(it.report([(STATUS, ON), (NAS_NAME, "ap-1")]))
+        self.assertEqual([self.rows()[f"of ap-{n}"]["state"] for n in (1, 2)], ["closed", "open"])
+
+    def test_used_again(self):
+        """With a LOGIN an id that is used again is another session."""
+        it = self.lab
+        for _ in range(2):
+            given = radius.first(it.login(source="127.0.0.4"), CLASS)
+            self.assertTrue(
+                it.report(
+                    report("00000001", lab.MEBIBYTE, more=[(CLASS, given)]), source="127.0.0.4"
+                )
+            )
+        self.assertEqual(len(it.sessions()), 2)
+        self.assertEqual(it.balances()["al"], 10**6 - 20)
+
+    def test_a_stranger(self):
+        packet = radius.report_packet(report("stranger"))
+        self.assertIsNone(radius.asked(self.lab.reports, packet[:-1] + b"x", wait=1).code)
+        self.assertIsNone(radius.asked(self.lab.reports, packet, source="127.0.9.9", wait=1).code)
+        self.assertEqual(self.rows(), {})
+
+
+if __name__ == "__main__":
+    unittest.main(verbosity=1)

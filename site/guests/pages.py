@@ -1,0 +1,66 @@
+"""The guests' page: a key of a card in, and what is left, used and bought of its account out."""
+
+from radacctd_site.core import desk, web
+from radacctd_site.guests import account
+
+# The key of the card, until the browser is closed.
+COOKIE = "__Host-guest"
+
+
+def look(visit):
+    """What is left; or a form for the key. A key of an address leaves the address at once."""
+    given = visit.request.query.get("k", "")
+    if given:
+        return use(visit, given)
+    key = visit.request.get_cookie(COOKIE) or ""
+    if not desk.TOKEN.fullmatch(key):
+        return asks(visit)
+    try:
+        found = account.asked(key)
+    except account.NotShown as why:
+        if str(why) != account.AWAY:
+            web.set_cookie(COOKIE, "")
+        return asks(visit, *reason(visit, str(why)))
+    return visit.page("guests/account.html", **shown(visit, found))
+
+
+def give(visit):
+    """A key that was typed, or a browser that is to forget its key."""
+    if visit.field("act") == "forget":
+        web.set_cookie(COOKIE, "")
+        return web.lead("/")
+    return use(visit, visit.field("key"))
+
+
+def use(visit, key):
+    if not desk.TOKEN.fullmatch(key):
+        return asks(visit, visit.text(
+            "A key has 16 to 64 letters, digits and dashes. Look at your card again."), 422)
+    web.set_cookie(COOKIE, key)
+    return web.lead("/")
+
+
+def asks(visit, said="", status=200):
+    return visit.page("guests/key.html", status, said=said)
+
+
+def reason(visit, why):
+    """What a guest reads, and the status."""
+    return {
+        account.UNKNOWN: (visit.text(
+            "This key is not known. It may have ended with your stay. Scan the card again, or ask at "
+            "the front desk."), 403),
+        account.OTHER: (visit.text("This is not a guest's key. Ask at the front desk."), 403),
+    }.get(why, (visit.text(
+        "The accounts cannot be reached now. Wait a minute, then load the page again. Nothing is "
+        "lost."), 503))
+
+
+def shown(visit, found):
+    """What the page has: sums in the site's money, data in GB."""
+    it, known = account.seen(found), account.plans()
+    plan = account.plan_of(found["sessions"], known)
+    octets = account.buys(it.balance, plan) if plan else None
+    return {"seen": it, "plan": plan, "known": known,
+            "about": visit.data(octets) if octets is not None else "",
+            "share": account.share(it.balance, it.bought)}

@@ -1,0 +1,98 @@
+"""Makes, lists, prints and withdraws printed vouchers: codes that a guest redeems at /redeem/.
+
+A sheet is a page: print it at https://HOST/vouchers/SHEET, or write it by `print` into a file that
+a browser prints. A withdrawn code stays so, also if an older site.db is put back: the book has it.
+"""
+
+import csv
+import sys
+
+from radacctd_site.core import Failed, cli, codes, money, names, places, store
+from radacctd_site.vouchers import paper, vouchers
+
+# Above these a person is asked: so many codes, and so much money together.
+ASK_COUNT, ASK_TOTAL = 100, 1000
+
+
+def arguments(it):
+    acts = it.add_subparsers(dest="act", required=True)
+    make = acts.add_parser("make", help="make a sheet of new codes")
+    make.add_argument("count", type=int, help=f"how many: 1 to {vouchers.LARGEST_COUNT}")
+    make.add_argument("sum", help="what each is worth in the site's money, as 5.00")
+    listed = acts.add_parser("list", help="print each sheet, or the codes of one as CSV")
+    listed.add_argument("sheet", nargs="?")
+    printed = acts.add_parser("print", help="print a sheet as a page for a browser (HTML)")
+    printed.add_argument("sheet")
+    withdraw = acts.add_parser("withdraw", help="end codes for ever")
+    withdraw.add_argument("what", nargs="*", help="a sheet's name, a code, or W- and a code")
+    withdraw.add_argument("--file", help="a CSV file with a column `code`")
+    for one in (make, withdraw):
+        one.add_argument("--yes", action="store_true", help="ask nothing")
+
+
+def make(db, words):
+    site = money.of_site(places.SETTINGS)
+    total = site.units(words.sum)
+    if total is None:
+        raise Failed(f"a sum is more than 0 and has {site.decimals} decimals at most, as "
+                     f"{site.plain(500)}: not {words.sum}")
+    count, worth = words.count, site.shown(total)
+    together = site.shown(count * total)
+    if count > ASK_COUNT or count * total > ASK_TOTAL * 10**site.decimals:
+        cli.confirm(f"{count} vouchers of {worth}, {together} together?", words.yes)
+    name = vouchers.make(db, count, total)
+    url = places.settings()["url"].rstrip("/")
+    print(f"{count} vouchers of {worth}, {together} together. Print them at {url}/vouchers/{name}")
+
+
+def show(db, sheet):
+    site = money.of_site(places.SETTINGS)
+    if not sheet:
+        for it in vouchers.sheets(db):
+            print(f"{it.name}: of {site.shown(it.sum)}: live {it.live}, given {it.given}, "
+                  f"withdrawn {it.withdrawn}, waiting {it.waiting}")
+        return
+    writer = csv.writer(sys.stdout, lineterminator="\n")
+    writer.writerow(["code", "sum", "state", "account"])
+    for it in vouchers.codes_of(db, sheet):
+        writer.writerow([names.cell(str(field)) for field in it])
+
+
+def codes_in(path):
+    """The codes of a CSV file, which is read as whoever gave the command."""
+    def one(cells):
+        if (code := codes.read(cells["code"])) is None:
+            raise ValueError("it has no code")
+        return code
+
+    return names.records_in(path, ["code"], one, ";,") if path else []
+
+
+def withdraw(db, book, words, found):
+    found = {*found, *(code for it in words.what for code in vouchers.named(db, it))}
+    if not found:
+        raise Failed("name a sheet, a code, or a file of codes")
+    if len(found) > 1:
+        cli.confirm(f"Withdraw {len(found)} codes for ever?", words.yes)
+    new, repeat, spent, rest = vouchers.send(db, book, vouchers.end(db, found, "command"))
+    print(f"withdrawn: {new} codes; {repeat} were so before, {spent} were redeemed before")
+    if rest:
+        raise Failed(f"{rest} are withdrawn here, and the book did not answer: it is asked again "
+                     "each minute")
+
+
+def main(words):
+    # Both are read as whoever gave the command.
+    is_sending = words.act == "withdraw"
+    book, found = (places.book(), codes_in(words.file)) if is_sending else (None, [])
+    places.become_user()
+    with store.opened() as db:
+        if words.act == "make":
+            make(db, words)
+        elif words.act == "list":
+            show(db, words.sheet)
+        elif words.act == "print":
+            print(paper.page(db, words.sheet))
+        else:
+            withdraw(db, book, words, found)
+    return 0
