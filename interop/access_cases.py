@@ -29,8 +29,14 @@ SHORT |= {"ip": "Framed-IP-Address", "station": "Calling-Station-Id"}
 SIZES = {"": 1, "K": 1 << 10, "M": 1 << 20, "G": 1 << 30}
 # The numbers of octets and gigawords that came from the user, and that went there.
 COUNTERS = {"in": (42, 52), "out": (43, 53)}
-USER, CLASS, SESSION, AUTHENTICATOR = 1, 25, 44, 80
+USER, CLASS, NAS_NAME, SESSION, AUTHENTICATOR = 1, 25, 32, 44, 80
 LARGEST = 4096
+# What a report has for a name if another one logged in.
+OTHER_NAMES = (None, "0x", "outer", "alias", "AL")
+# What a case may say, and how a reason begins.
+COLUMNS = {it: [it] for it in ("right", "alone", "stamped", "proxied", "files")}
+COLUMNS["program"] = ["alone", "stamped", "proxied"]
+KINDS = {"The specification": "specification", "Not known": "not known", "A setting": "setting"}
 
 
 class Mistake(Exception):
@@ -66,17 +72,33 @@ class Wanted:
     counted: set
     reason: str
 
+    def kind(self):
+        """What kind of reason it is."""
+        return next((it for begin, it in KINDS.items() if self.reason.startswith(begin)), "")
+
+
+def address(number, net=3):
+    """Where the access server of a case sends from."""
+    return f"127.{net}.{number // 250}.{1 + number % 250}"
+
+
+def bare(_, plan):
+    """The Class of a login if it is the plan's name."""
+    return plan.encode()
+
 
 class Case:
     """A case, with its packets as they are written."""
 
     def __init__(self, number, name, group):
         self.number, self.name, self.group = number, name, group
-        self.who = self.says = self.how = ""
+        self.who = self.says = ""
         self.is_life = False
         self.every, self.lines, self.client = [], [], []
         # What is right, and what a target does by its specification where that differs.
         self.wanted = {}
+        # What a table says of each of its cases.
+        self.said = []
         # In which order a life is sent again.
         self.variant = ""
 
@@ -89,12 +111,12 @@ class Case:
     def identifier(self, value):
         return octets(value) if value.startswith("0x") else f"{self.number}x{value}".encode()
 
-    def prefix(self):
-        return f"{self.number}x".encode()
-
     def source(self, second=False):
-        net = 4 if second else 3
-        return f"127.{net}.{self.number // 250}.{1 + self.number % 250}"
+        return address(self.number, 4 if second else 3)
+
+    def setting(self, name):
+        """What its client has for a name."""
+        return dict(it.split("=") for it in self.client).get(name)
 
     def sources(self):
         """The addresses of its access servers."""
@@ -109,7 +131,7 @@ class Case:
 
     def copy(self, number, variant, lines):
         other = Case(number, f"{self.name}, {variant}", self.group)
-        other.who, other.says, other.how = self.who, self.says, self.how
+        other.who, other.says = self.who, self.says
         other.every, other.client, other.lines = self.every, self.client, lines
         other.wanted, other.variant = self.wanted, variant
         other.is_life = True
@@ -124,6 +146,9 @@ class Case:
 
 class Step:
     """One line of a case: a packet, a login or a pause."""
+
+    # The Class of a login of an account by a plan, as a target gives it.
+    given = staticmethod(bare)
 
     def __init__(self, case, words):
         self.case, self.words = case, words
@@ -148,10 +173,21 @@ class Step:
     def is_report(self):
         return self.what in STATUSES or self.what.isdigit()
 
+    def name(self):
+        """The name that a report has."""
+        return None if "user" in self.dropped else dict(self.pairs).get("user", "al")
+
+    def payer(self):
+        """Who logged in before it: its own name, or another report's; None if nobody did."""
+        reports = [it for it in self.case.steps() if it.is_report()]
+        names = [it.name() for it in (self, *reports) if it.what not in ("on", "off")]
+        found = next((it for it in names if it not in OTHER_NAMES), None)
+        return found and self.case.account(found)
+
     def attributes(self, login):
         """The attributes, of which `login` has those that its answer had."""
         names = {name for name, _ in self.pairs}
-        defaults = [("user", "al"), ("id", "s1"), ("class", "gold"), 
+        defaults = [("user", "al"), ("id", "s1"), ("class", "@gold"),
                     ("nas", self.case.source("from" in self.flags))]
         if self.what in ("on", "off") or not self.is_report():
             defaults = defaults[3:]
@@ -169,10 +205,16 @@ class Step:
     def written(self, name, value, login):
         if value == "@login":
             own = self.case.logs_in()
-            kind, fallback = (USER, own) if name == "user" else (CLASS, "silver")
+            kind, fallback = (USER, own) if name == "user" else (CLASS, "@silver")
             if login.get(kind):
                 return [(kind, it) for it in login[kind]]
             return self.written(name, fallback, login)
+        if name.lower() == "class" and value.startswith("@"):
+            plan, _, kept = value[1:].partition(":")
+            found = self.given(self.payer(), plan)[: int(kept or 253)]
+            return [(CLASS, found)] if found else []
+        if name == "NAS-Identifier":
+            return [(NAS_NAME, self.case.identifier(value))]
         if name == "user":
             return [(USER, self.case.account(value))]
         if name == "id":
@@ -292,8 +334,10 @@ class Reader:
             self.begin(word, rest)
         elif word == "with":
             self.row(rest)
+        elif self.table:
+            self.table.said.append((word, rest))
         else:
-            self.of_case(self.table or case, word, rest)
+            self.of_case(case, word, rest)
 
     def begin(self, word, name):
         self.table = None
@@ -307,18 +351,19 @@ class Reader:
     def row(self, rest):
         """A case of a table: the words that take the place of {}."""
         says, _, words = rest.partition("|")
-        begun = self.table
-        name = f"{begun.name}: {words.strip()}"
-        case = Case(len(self.cases) + 1, name, self.group)
-        case.who, case.says, case.every = begun.who, says.strip(), begun.every
-        case.client = begun.client
-        case.lines = [line.replace("{}", words.strip()) for line in begun.lines]
-        case.wanted = begun.wanted
+        words = words.strip()
+        case = Case(len(self.cases) + 1, f"{self.table.name}: {words}", self.group)
+        case.says = says.strip()
+        case.lines = [line.replace("{}", words) for line in self.table.lines]
+        for word, said in self.table.said:
+            self.of_case(case, word, said.replace("{}", words))
         self.cases.append(case)
 
     def of_case(self, case, word, rest):
-        if word in ("right", "alone", "files"):
-            case.wanted[word] = wanted(case, rest, word)
+        columns = word.split("+")
+        if set(columns) <= set(COLUMNS):
+            columns = [it for one in columns for it in COLUMNS[one]]
+            case.wanted |= dict.fromkeys(columns, wanted(case, rest, word))
         elif word == "every":
             case.every = shlex.split(rest)
         elif word == "client":
@@ -329,8 +374,8 @@ class Reader:
             raise Mistake(f"{word} is none of the words of a case")
 
 
-def wanted(case, text, target):
-    """What a line `right`, `alone` or `files` says."""
+def wanted(case, text, columns):
+    """What a line `right`, or of some other columns, says."""
     text, _, reason = text.partition("|")
     words = text.split(None, 1)
     answers = ""
@@ -345,9 +390,10 @@ def wanted(case, text, target):
             counted.add(one[1])
         elif one[0] != "nothing":
             charges.append(charge(one))
-    if target != "right" and not reason.strip():
-        raise Mistake(f"{case.name}: no reason why it is not right")
-    return Wanted(answers, charges, filed, counted, reason.strip())
+    found = Wanted(answers, charges, filed, counted, reason.strip())
+    if columns != "right" and not (found.kind() or columns == "files" and found.reason):
+        raise Mistake(f"{case.name}: a reason begins with one of {', '.join(KINDS)}")
+    return found
 
 
 def charge(words):
@@ -397,8 +443,7 @@ class Sender:
         self.answers, self.count, self.sockets = "", 0, []
         for source in case.sources():
             self.sockets.append(socket.socket(socket.AF_INET, socket.SOCK_DGRAM))
-            if target.is_local():
-                self.sockets[-1].bind((source, 0))
+            self.sockets[-1].bind((source, 0))
 
     def send(self, steps, wanted_answers):
         for step in steps:
@@ -415,11 +460,12 @@ class Sender:
         """Whether a packet is answered. As a device does, this sends it again."""
         self.count += 1
         identifier = (self.case.number * 7 + self.count) % 256
+        step.given = self.target.given
         packet = Packet(step, identifier, self.target.secret, self.login)
         opened = self.sockets["from" in step.flags]
         self.moment = time.time()
         for _ in range(1 if silent else self.TRIES):
-            opened.sendto(packet.octets, self.target.place())
+            opened.sendto(packet.octets, ("127.0.0.1", self.target.port))
             end = time.monotonic() + (self.SILENCE if silent else self.PATIENCE)
             while time.monotonic() < end:
                 opened.settimeout(max(0.01, end - time.monotonic()))

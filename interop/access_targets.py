@@ -1,5 +1,5 @@
 """Where interop/access-servers sends its cases, and what became of them there: radacctd alone,
-radacctd behind FreeRADIUS with the files of etc/freeradius, FreeRADIUS' own SQL, any other server.
+radacctd behind FreeRADIUS with the files of etc/freeradius, FreeRADIUS' own SQL.
 """
 
 import contextlib
@@ -16,16 +16,16 @@ import urllib.parse
 import front
 import front_stock
 import old_memory
-from access_cases import CLASS, LOGIN, USER, Charge, Packet, pairs_of
+from access_cases import CLASS, USER, Charge, Packet, address, bare, pairs_of
 from front import KILL, LISTEN, SECRET, check
 from front_parts import attribute, count_in
 from promise_model import octets
 
 MEBIBYTE = 1 << 20
-# Class, block, unit and what is counted. `hour` is one of seconds.
+# Class, block, unit and what is counted.
 PLANS = [("gold", MEBIBYTE, 1, "both"), ("silver", MEBIBYTE, 2, "both"),
          ("default", MEBIBYTE, 1000, "both"), ("up", MEBIBYTE, 3, "in"),
-         ("down", MEBIBYTE, 4, "out"), ("hour", 60, 1, "in")]
+         ("down", MEBIBYTE, 4, "out")]
 KNOWN = {name for name, *_ in PLANS}
 # The names that log in, and whose the Access-Accept's is then.
 USERS = """
@@ -59,14 +59,23 @@ def rows_of_radacctd(text):
                     int(row["output"]), more)
         it.more["charged"] = int(row["charged"])
         session = octets(row["session"])
-        source = row["client"]
-        if source == "front":
-            source = session.split(b"/")[0].decode("latin-1")
-        yield Row(source, session, it)
+        yield Row(source_of(row["client"], session), session, it)
+
+
+def source_of(client, session):
+    """Where the access server of a row sends from, as far as the row says it."""
+    name, _, device = client.partition("/")
+    value = octets(device[1:])
+    if name == "front":
+        return session.split(b"/")[0].decode("latin-1")
+    if device[:1] == "a" and len(value) == 4:
+        return socket.inet_ntoa(value)
+    number = re.match(rb"(\d+)x", value)
+    return address(int(number[1])) if device[:1] == "n" and number else client
 
 
 def rows_of_radacct(text):
-    """The rows of a table radacct, of FreeRADIUS' schemas, as CSV with its header."""
+    """The rows of a table radacct as CSV with its header."""
     for row in csv.DictReader(io.StringIO(text)):
         name = row.get("class") or ""
         is_hex = re.fullmatch(r"0x([0-9a-f]{2})+", name)
@@ -101,16 +110,11 @@ def moment(text):
 
 
 class Target:
-    """A server. `charges` reads what it charged; `is_ours` whether its column may fail the test."""
+    """A server at a port of 127.0.0.1."""
 
-    secret, is_ours, can_restart = SECRET.encode(), True, True
-    auth = None
-
-    def is_local(self):
-        return True
-
-    def place(self):
-        return "127.0.0.1", self.port
+    secret = SECRET.encode()
+    auth = book = None
+    given = staticmethod(bare)
 
     def logs_in(self, case, step):
         """The attributes of the Access-Accept, or None."""
@@ -143,6 +147,18 @@ class Target:
     def settles(self):
         pass
 
+    def restart(self):
+        ended(self.book)
+        self.book.start()
+
+    def rows(self):
+        """The sessions of radacctd's book. A server has it for itself, so it is ended before."""
+        ended(self.book)
+        return list(rows_of_radacctd(self.book.export("sessions")))
+
+    def end(self):
+        ended(self.book)
+
 
 def login_packet(case, step, secret):
     """An Access-Request with a right password."""
@@ -161,36 +177,22 @@ def login_packet(case, step, secret):
     return packet
 
 
-class Alone(Target, front.Book):
-    """radacctd, with a client for each access server."""
+class Book(front.Book):
+    """radacctd, with these clients: of each the name, the address, the secret and more lines."""
 
-    name = "radacctd alone"
-
-    def __init__(self, folder, cases):
-        self.cases = cases
-        self.port = KILL.free_port(socket.SOCK_DGRAM)
-        front.Book.__init__(self, folder)
-        self.radius = self.port
-        self.start()
+    def __init__(self, folder, clients, top=""):
+        self.text = top + "".join(
+            f'[[client]]\nname = "{name}"\naddress = "{place}"\nsecret = "{secret}"\n{more}'
+            for name, place, secret, more in clients
+        )
+        self.text += "".join(
+            f'[[plan]]\nclass = "{name}"\nblock = {block}\nunit = {unit}\ncount = "{count}"\n'
+            for name, block, unit, count in PLANS
+        )
+        super().__init__(folder)
 
     def configuration(self):
-        return site([(it, it, SECRET) for case in self.cases for it in case.sources()])
-
-    def restart(self):
-        self.kill()
-        self.start()
-
-    def rows(self):
-        return list(rows_of_radacctd(exported(self)))
-
-    def end(self):
-        ended(self)
-
-
-def exported(book):
-    """The sessions of a book. A server has it for itself, so it is ended before."""
-    ended(book)
-    return book.export("sessions")
+        return self.text
 
 
 def ended(book):
@@ -198,23 +200,20 @@ def ended(book):
         book.kill()
 
 
-def site(clients):
-    """A configuration of radacctd."""
-    text = "".join(
-        f'[[client]]\nname = "{name}"\naddress = "{address}"\nsecret = "{secret}"\n'
-        for name, address, secret in clients
-    )
-    return text + "".join(
-        f'[[plan]]\nclass = "{name}"\nblock = {block}\nunit = {unit}\ncount = "{count}"\n'
-        for name, block, unit, count in PLANS
-    )
+class Alone(Target):
+    """radacctd, with a client for each access server."""
 
+    name, top = "radacctd alone", ""
 
-class Behind(front.Book):
-    """radacctd, with FreeRADIUS as its one client."""
+    def __init__(self, folder, cases):
+        clients = [(it, it, SECRET, self.more(case)) for case in cases for it in case.sources()]
+        self.book = Book(folder, clients, self.top)
+        self.port = self.book.radius
+        self.book.start()
 
-    def configuration(self):
-        return site([("front", "127.0.0.1", front.BOOK_SECRET)])
+    def more(self, _):
+        """What else the client of a case has."""
+        return ""
 
 
 class Debian(Target):
@@ -226,23 +225,13 @@ class Debian(Target):
         self.log, self.process = os.path.join(folder, "out"), None
         for name in ("log", "run", "log/radacct"):
             os.makedirs(os.path.join(folder, name), exist_ok=True)
-        for one, other in (
-            ("logdir = /var/log/freeradius", f"logdir = {folder}/log"),
-            ("run_dir = ${localstatedir}/run/${name}", f"run_dir = {folder}/run"),
-            ("\tuser = freerad\n", ""),
-            ("\tgroup = freerad\n", ""),
-        ):
-            front_stock.edited(raddb, "radiusd.conf", one, other)
+        front_stock.moved(self)
         self.ports()
         front.written(os.path.join(raddb, "mods-config/files/authorize"), USERS)
 
     def ports(self):
         """Listens at its own ports alone."""
-        for name in (front_stock.DEFAULT, front_stock.INNER):
-            path = os.path.join(self.raddb, name)
-            with open(path, encoding="utf-8") as file:
-                text = file.read()
-            front.written(path, re.sub(r"(?m)^listen \{$(.|\n)*?^\}$", "", text))
+        front_stock.without_listen(self.raddb)
         listens = ""
         for kind, port in (("auth", self.auth), ("acct", self.port)):
             listen = LISTEN.format(kind=kind, family="ipaddr", address="127.0.0.1", port=port)
@@ -274,6 +263,17 @@ class Debian(Target):
 
     def end(self):
         self.stop()
+        if self.book:
+            ended(self.book)
+
+
+def debians(folder):
+    """A copy of Debian's configuration."""
+    raddb = os.path.join(folder, "raddb")
+    subprocess.run(["cp", "-a", front_stock.STOCK, raddb], check=True)
+    stock = f"raddbdir = {front_stock.STOCK}"
+    front_stock.edited(raddb, "radiusd.conf", stock, f"raddbdir = {raddb}")
+    return raddb
 
 
 class Files(Debian):
@@ -283,7 +283,7 @@ class Files(Debian):
 
     def __init__(self, folder, cases):
         self.cases = cases
-        self.book = Behind(folder)
+        self.book = Book(folder, [("front", "127.0.0.1", front.BOOK_SECRET, "")])
         super().__init__(folder, front_stock.debians_own(folder))
         self.queue = os.path.join(folder, "log/radacct/radacctd")
         self.unsent = self.queue + "-unsent"
@@ -301,9 +301,10 @@ class Files(Debian):
             text = file.read().replace("10.0.0.0/16", "127.0.0.0/8")
         text = text.replace("10.0.0.1", "127.3.0.1").replace("change-me-access-points", SECRET)
         for case in self.cases:
-            if case.client:
+            settings = [it for it in case.client if it.startswith("radacctd_")]
+            if settings:
                 own = {"ipaddr": case.source(), "secret": SECRET, "radacctd_stamp": "name"}
-                own |= dict(it.split("=") for it in case.client)
+                own |= dict(it.split("=") for it in settings)
                 lines = "".join(f"\t{name} = {value}\n" for name, value in own.items())
                 text += f"client case-{case.number} {{\n{lines}}}\n"
         front.written(path, text.replace("radacctd_cut = yes", "radacctd_cut = no"))
@@ -325,7 +326,7 @@ class Files(Debian):
             text = file.read()
         for name, value in (
             ("mirror", mirror), ("port", self.book.radius), ("secret", front.BOOK_SECRET),
-            ("oldest", 86_400), ("time_classes", '"^hour$"'),
+            ("oldest", 86_400),
         ):
             text, found = re.subn(rf"(?m)^\t{name} = .*$", lambda _: f"\t{name} = {value}", text)
             assert found == 1, name
@@ -333,9 +334,6 @@ class Files(Debian):
 
     def settles(self):
         front.waits_for("the queue is empty", lambda: count_in(self.queue), 0, 120)
-
-    def rows(self):
-        return list(rows_of_radacctd(exported(self.book)))
 
     def filed(self):
         found = []
@@ -349,21 +347,14 @@ class Files(Debian):
         names = [it for it in os.listdir(os.path.join(self.folder, "run")) if it.startswith(mark)]
         return {tuple(it.removeprefix(mark).split(".", 1)) for it in names}
 
-    def end(self):
-        self.stop()
-        ended(self.book)
-
 
 class Sql(Debian):
     """FreeRADIUS' own SQL, with SQLite, as Debian packages it."""
 
-    name, is_ours = "FreeRADIUS' SQL", False
+    name = "FreeRADIUS' SQL"
 
     def __init__(self, folder, cases):
-        raddb = os.path.join(folder, "raddb")
-        subprocess.run(["cp", "-a", front_stock.STOCK, raddb], check=True)
-        stock = f"raddbdir = {front_stock.STOCK}"
-        front_stock.edited(raddb, "radiusd.conf", stock, f"raddbdir = {raddb}")
+        raddb = debians(folder)
         super().__init__(folder, raddb)
         self.database = os.path.join(folder, "radius.db")
         for one, other in (
@@ -385,34 +376,3 @@ class Sql(Debian):
         words = ["sqlite3", "-csv", "-header", self.database, "SELECT * FROM radacct"]
         done = subprocess.run(words, capture_output=True, check=True)
         return list(rows_of_radacct(done.stdout.decode("latin-1")))
-
-
-class Other(Target):
-    """Any other server: `charges` is a command that prints its sessions as CSV."""
-
-    name, can_restart = "the server", False
-
-    def __init__(self, place, secret, charges):
-        host, _, port = place.rpartition(":")
-        self.host, self.port = host.strip("[]"), int(port)
-        with open(secret, "rb") as file:
-            self.secret = file.read().rstrip(b"\r\n")
-        self.charges = charges
-
-    def is_local(self):
-        return self.host.startswith("127.")
-
-    def place(self):
-        return self.host, self.port
-
-    def rows(self):
-        """The rows, of radacctd's export or of a table radacct."""
-        if self.charges is None:
-            return None
-        done = subprocess.run(["sh", "-c", self.charges], capture_output=True, check=True)
-        text = done.stdout.decode("latin-1")
-        is_export = text.startswith("client,session,account,class")
-        return list((rows_of_radacctd if is_export else rows_of_radacct)(text))
-
-    def end(self):
-        pass

@@ -131,45 +131,6 @@ b radacctd_drops_total{reason="8",name="UnknownStatus"} 0+0.2x120
 23m a:WrongSecret a:UnknownClient
 70m a:WrongSecret a:UnknownClient a:OtherDrops
 
-# On a disk of a, two books have more than is free; on that of b they have not.
-the disk of several books
-b radacctd_start_time_seconds{shard="s8"} 1x40
-a radacctd_start_time_seconds{shard="s0"} 1x40
-a radacctd_book_octets{shard="s0"} 900000000x40
-a radacctd_book_octets{shard="s1"} 900000000x40
-a radacctd_log_octets{shard="s0"} 4000000x40
-a radacctd_log_octets{shard="s1"} 4000000x40
-b radacctd_book_octets{shard="s8"} 900000000x40
-b radacctd_log_octets{shard="s8"} 4000000x40
-a node_filesystem_avail_bytes{mountpoint="/"} 1500000000x40
-b node_filesystem_avail_bytes{mountpoint="/"} 1500000000x40
-10m
-30m a:DiskNearlyFull
-
-# s0 has reports, s1 has hardly an account, and s7 moves to machine b after 25 hours. From 26h on no
-# report comes for s0.
-5m a quiet book, and one that moves
-a radacctd_start_time_seconds{shard="s0"} 1x340
-a radacctd_start_time_seconds{shard="s1"} 1x340
-a radacctd_start_time_seconds{shard="s7"} 1x299 stale
-b radacctd_start_time_seconds{shard="s7"} _x300 90000x40
-a radacctd_datagrams_total{shard="s0"} 0+10x312 3120x28
-a radacctd_datagrams_total{shard="s1"} 1x340
-a radacctd_datagrams_total{shard="s7"} 0+10x299 stale
-b radacctd_datagrams_total{shard="s7"} _x300 0+10x40
-a radacctd_last_report_time_seconds{shard="s0"} 0+300x312 93600x28
-a radacctd_last_report_time_seconds{shard="s1"} 900x340
-a radacctd_last_report_time_seconds{shard="s7"} 0+300x299 stale
-b radacctd_last_report_time_seconds{shard="s7"} _x300 90000+300x40
-a radacctd_balances_time_seconds{shard="s0"} 0+300x340
-a radacctd_balances_time_seconds{shard="s1"} 0+300x340
-a radacctd_balances_time_seconds{shard="s7"} 0+300x299 stale
-b radacctd_balances_time_seconds{shard="s7"} _x300 90000+300x40
-24h50m
-25h20m
-26h20m
-27h a:NoReports
-
 a book that is away
 a radacctd_book_is_there 1x4 0x15
 # One that was away for a look.

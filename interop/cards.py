@@ -2,28 +2,23 @@
 
 import csv
 import glob
-import json
 import os
 import re
 import stat
 import subprocess
-import time
 
-import front_desk
-import names
-import web_pages
 from browser import holding
+from redeeming import live
 from served import PROGRAM, ROOT, check
 
 TOOLS = os.path.join(ROOT, "etc", "tools")
 LETTERS = "ACDEFHJKMNPQRTUWXY34679"
-REDEEM_KEY = "redeem-key-0000001"
+SITE_KEY = "site-key-000000001"
 MORE_KEYS = f"""
 [[key]]
-token = "{REDEEM_KEY}"
+token = "{SITE_KEY}"
 cashier = true
 """
-WRAPPER = "#!/bin/sh\nexec {tool}\n"
 
 
 def tool(name, *words):
@@ -55,16 +50,16 @@ def keys(browser, proxy, server, folder):
     words += ["--url", proxy.url()]
     account = "Zoë 1126"
     done = tool("key", *words, "new", account, "--days", "3", "--card", card)
-    check("radacctd-key makes a key", done, (0, f"{account}: the card is {card}\n", ""))
+    check("radacctl key makes a key", done, (0, f"{account}: the card is {card}\n", ""))
     token = re.findall(r"[a-z0-9]{5}(?:-[a-z0-9]{5}){4}", text_of(card))[0]
     check("the card is its owner's alone", mode_of(card), "0o600")
-    check("the server took the key at once", proxy.status("/me/balance", key=token), 200)
+    check("the server took the key at once", proxy.guest(token)[0], 200)
     browser.go(f"file://{card}")
     browser.size(420, 640, 2)
     picture = os.path.join(folder, "card.png")
     browser.picture(picture)
     browser.size(1000, 800)
-    check("the card's code is the page's address", codes_in(picture), [proxy.url(f"/#k={token}")])
+    check("the card's code is the page's address", codes_in(picture), [proxy.url(f"/?k={token}")])
     browser.go(codes_in(picture)[0])
     check("which shows the account", browser.shows(f"Account {account}"), True)
     again = tool("key", *words, "new", account)
@@ -78,7 +73,7 @@ def keys(browser, proxy, server, folder):
     )
     done = tool("key", *words, "revoke", account)
     check("check-out ends the key", done[:2], (0, "ended 1 keys\n"))
-    check("at once", proxy.status("/me/balance", key=token), 401)
+    check("at once", proxy.guest(token)[0], 403)
     check("and the configuration is as before", text_of(server.config), before)
     expiry(proxy, server, words)
     full(server, folder)
@@ -94,8 +89,7 @@ def full(server, folder):
     done = subprocess.run([PROGRAM, "check", "--config", path], capture_output=True, text=True)
     check("4,096 keys are right", done.returncode, 0)
     status, _, errors = tool("key", "--config", path, "new", "zed")
-    named = "set up 16 books (docs/SHARDS.md)" in errors
-    check("one more is refused, and the page named", (status, named), (1, True))
+    check("one more is refused, and why", (status, "4096 keys are all" in errors), (1, True))
 
 
 def expiry(proxy, server, words):
@@ -104,14 +98,14 @@ def expiry(proxy, server, words):
     check(
         "before its time a key stays", tool("key", *words, "expire")[1], "no key to end\n"
     )
-    check("and is taken", proxy.status("/me/balance", key=token), 200)
+    check("and is taken", proxy.guest(token)[0], 200)
     text = text_of(server.config)
     with open(server.config + "~", "w", encoding="utf-8") as file:
         file.write(re.sub(r"until \S+", "until 2026-01-01T12:00", text))
     os.chmod(server.config + "~", 0o600)
     os.rename(server.config + "~", server.config)
     check("after it, it ends", tool("key", *words, "expire")[:2], (0, "ended 1 keys\n"))
-    check("for the server, too", proxy.status("/me/balance", key=token), 401)
+    check("for the server, too", proxy.guest(token)[0], 403)
     right = text_of(server.config)
     with open(server.config, "a", encoding="utf-8") as file:
         file.write("\n[broken")
@@ -129,174 +123,91 @@ def has_check_letter(code):
     return LETTERS[weighed % len(LETTERS)] == plain[-1]
 
 
-def codes_of(sheet, count, folder):
-    """What the QR code of each voucher of a sheet says, each looked at alone."""
-    found = []
-    for at in range(count):
-        page, place = divmod(at, 24)
-        # Of a sheet 200 dots an inch, where a voucher has 180 by 98 points.
-        left, top = (27 + place % 3 * 180) * 200 // 72, (30 + place // 3 * 98) * 200 // 72
-        words = ["pdftoppm", "-r", "200", "-png", "-singlefile", "-f", str(page + 1)]
-        words += ["-x", str(left), "-y", str(top), "-W", "500", "-H", "272"]
-        subprocess.run([*words, sheet, f"{folder}/one"], check=True)
-        found += codes_in(f"{folder}/one.png")
-    return sorted(found)
+def begin_service(proxy, server, folder):
+    """The pages' service at the socket that nginx asks."""
+    service = live.Service(f"{folder}/service", server.desk, SITE_KEY, name="Hotel Example")
+    service.socket = proxy.socket
+    # As the program writes them there.
+    service.env["RADACCTD_PLANS"] = f"{folder}/plans.json"
+    return service.start()
 
 
-def make_vouchers(proxy, folder):
-    """The codes of a sheet, whose stock lies in the folder of the test."""
-    words = ["--stock", f"{folder}/stock.csv", "--to", folder, "--url", "https://localhost"]
-    words += ["--settings", f"{proxy.folder}/site/settings.json"]
-    status, said, _ = tool("voucher", *words, "--count", "30", "--sum", "5.00")
-    wanted = 0, "30 vouchers of 5.00 EUR, 150.00 EUR together"
-    check("radacctd-vouchers makes a sheet", (status, said.split(":")[0]), wanted)
-    made, stock = glob.glob(f"{folder}/vouchers-*.csv")[0], f"{folder}/stock.csv"
-    sheet = made.replace(".csv", ".pdf")
-    name = os.path.basename(made).removesuffix(".csv")
-    wanted = text_of(made).replace("code,sum", "code,sum,sheet").replace(",500", f",500,{name}")
-    check("the CSV is the stock's", text_of(stock), wanted)
-    modes = [mode_of(it) for it in (made, sheet, stock)]
-    check("no one else can read them", modes, ["0o600", "0o600", "0o640"])
-    codes = [row[0] for row in csv.reader(text_of(stock).splitlines()[1:])]
+def make_vouchers(service, folder):
+    """The codes of a sheet, which a browser could print."""
+    status, said = service.run("voucher", "make", "30", "5.00")
+    wanted = 0, "30 vouchers of 5.00 EUR, 150.00 EUR together."
+    check("a sheet is made", (status, said.split(" Print")[0]), wanted)
+    name = said.strip().rpartition("/")[2]
+    rows = [*csv.DictReader(service.run("voucher", "list", name)[1].splitlines())]
+    codes = [it["code"] for it in rows]
     check("each code has its check letter", all(map(has_check_letter, codes)), True)
-    text = subprocess.run(["pdftotext", sheet, "-"], capture_output=True, text=True).stdout
+    page = f"{folder}/sheet.html"
+    with open(page, "w", encoding="utf-8") as file:
+        file.write(service.run("voucher", "print", name)[1])
+    subprocess.run(["chromium", "--headless", "--no-sandbox", "--disable-gpu",
+                    f"--print-to-pdf={folder}/sheet.pdf", page], capture_output=True, check=True)
+    text = subprocess.run(["pdftotext", f"{folder}/sheet.pdf", "-"], capture_output=True,
+                          text=True).stdout
     check("the sheet has each code", all(it in text for it in codes), True)
-    wanted = sorted(f"https://localhost/redeem/#c={it}" for it in codes)
-    check("as a QR code, too", codes_of(sheet, len(codes), folder), wanted)
-    tool("voucher", *words, "--count", "1", "--sum", "7")
-    check("a second sheet adds to the stock", text_of(stock).count("\n"), 32)
+    subprocess.run(["pdftoppm", "-r", "200", "-png", f"{folder}/sheet.pdf", f"{folder}/sheet"],
+                   check=True)
+    found = [it for path in sorted(glob.glob(f"{folder}/sheet-*.png")) for it in codes_in(path)]
+    wanted = sorted(f"https://localhost/redeem/?c={it}" for it in codes)
+    check("as a QR code, too", sorted(found), wanted)
     return codes
 
 
-def begin_redeem(proxy, server, folder):
-    with open(f"{folder}/redeem.key", "w", encoding="utf-8") as file:
-        file.write(REDEEM_KEY + "\n")
-    script = os.path.join(proxy.folder, "redeem")
-    with open(script, "w", encoding="utf-8") as file:
-        file.write(WRAPPER.format(tool=f"{TOOLS}/radacctl redeem"))
-    os.chmod(script, 0o755)
-    # The environment of fcgiwrap is the unit's.
-    own = {"RADACCTD_STOCK": f"{folder}/stock.csv", "RADACCTD_KEY": f"{folder}/redeem.key",
-           "RADACCTD_DESKS": f"127.0.0.1:{server.desk}"}
-    words = ["fcgiwrap", "-c", "2", "-p", script, "-s", f"unix:{proxy.socket}"]
-    process = subprocess.Popen(words, start_new_session=True, env=os.environ | own)
-    for _ in range(100):
-        if os.path.exists(proxy.socket):
-            break
-        time.sleep(0.05)
-    return process
-
-
-def post(proxy, account, code, origin):
-    body = json.dumps({"account": account, "code": code})
-    status, _, answer = proxy.curl(
-        "/redeem/code", "-H", "Radacctd: redeem", body=body, origin=origin
-    )
-    return status, json.loads(answer).get("error") if status in (404, 409, 422) else None
-
-
-def forms(proxy, codes):
-    """What the script refuses before it looks into the stock."""
-    wrong = [("a\nb", codes[0]), ("", codes[0]), ("a%0a", codes[0]), ("a" * 300, codes[0])]
-    found = [post(proxy, *it, origin="127.0.0.6") for it in wrong]
-    check("accounts of another form", found, [(422, "bad account")] * 4)
-    wrong = [("bo", "A,1"), ("bo", codes[0] + "\n" + codes[1])]
-    found = [post(proxy, *it, origin="127.0.0.7") for it in wrong]
-    check("codes of another form", found, [(422, "bad code")] * 2)
-    status = proxy.status("/redeem/code", body="{}", origin="127.0.0.7")
-    check("a request that another site sends", status, 403)
-    status = proxy.status("/redeem/code", "-H", "Radacctd: redeem", origin="127.0.0.7")
-    check("a GET", status, 403)
-    other = "ACDEF-HJKMN-PQRT"
-    unknown = next(other + it for it in LETTERS if has_check_letter(other + it))
-    tries = [post(proxy, "bo", unknown, "127.0.0.8") for _ in range(10)]
-    check("wrong codes: the first 6 are looked up", tries[:6], [(404, "no such code")] * 6)
-    check("then this address has to wait", 429 in [it[0] for it in tries[6:]], True)
-    return unknown
-
-
-def fill(browser, account, code):
-    """Types account and code, and says yes to the question if there is one."""
+def ask(browser, account, code):
+    """Types account and code, and goes on to the question."""
     browser.submit({"account": account, "code": code})
-    browser.click("#yes")
-
-
-def question(browser, proxy, code):
-    """A code is redeemed for an account only after a question that names both."""
-    sent = lambda: [it["path"] for it in proxy.log("radacctd.log")].count("/redeem/code")
-    before = sent()
-    browser.js("document.getElementById('account').focus()")
-    browser.keys("bo 2\ue007\ue007\ue007")
-    asked = browser.shows(f"Put the voucher {code} on the account bo 2?", "#question")
-    found = (asked, browser.js("return draft?.account"))
-    check("Enter and Enter again only ask", found, (True, "bo 2"))
-    time.sleep(1)
-    check("and send nothing", sent(), before)
-    browser.js("own = 'room 12'; drawQuestion()")
-    told = browser.shows("is for the account room 12", "#question")
-    check("who has another card is told", told, True)
-    browser.click("#no")
-    typed = browser.js("return document.getElementById('code').value")
-    check("the form is there again", typed, code)
-    for name, why in (("'anton", "apostrophe"), ("1.5E+11", "no whole account"), ("a%{b}", "%{")):
-        browser.js("document.getElementById('account').value = arguments[0];"
-                   "document.getElementById('form').requestSubmit()", name)
-        check(f"{name} is refused", why in browser.text("#message"), True)
 
 
 def by_page(browser, codes, unknown):
     """What a guest sees who redeems a code, a wrong one, and one that is not there."""
-    fill(browser, "Zoë & Max", codes[0])
-    check("a code is redeemed", browser.shows("Done. Zoë & Max has 5.00 EUR more."), True)
-    fill(browser, "Zoë & Max", codes[0].lower().replace("-", " "))
-    check("again it adds nothing", browser.shows("Nothing more was added."), True)
-    fill(browser, "another", codes[0])
-    check("nor for another account", browser.shows("redeemed for another account"), True)
-    fill(browser, "bo", ("A" if codes[1][0] != "A" else "C") + codes[1][1:])
-    said = browser.shows("A letter of the code is wrong")
-    check("a wrong letter is seen by the page", said, True)
-    fill(browser, "bo", unknown)
-    check("a code that is not in the stock", browser.shows("This voucher is not known"), True)
-    browser.js("window.real = fetch;"
-               "window.fetch = async () => new Response('<p>Log in', {status: 200})")
-    fill(browser, "bo", codes[1])
-    said = browser.shows("The accounts are away just now")
-    kept = browser.js("window.fetch = window.real; return document.getElementById('code').value")
-    check("an answer that is none of the script's redeems nothing", (said, kept), (True, codes[1]))
+    ask(browser, "bo 2", codes[0])
+    asked = browser.shows(f"Redeem the voucher {codes[0]} for the account bo 2?", "main")
+    check("a question names both", asked, True)
+    browser.click("button[value=no]")
+    check("no leads back, with what was typed",
+          browser.js("return document.getElementById('code').value"), codes[0])
+    for account, code, said in (
+        ("Zoë & Max", codes[0], "Done. Zoë & Max has 5.00 EUR more."),
+        ("Zoë & Max", codes[0].lower().replace("-", " "), "Nothing was added."),
+        ("another", codes[0], "redeemed for another account"),
+        ("bo", unknown, "There is no such voucher"),
+    ):
+        ask(browser, account, code)
+        browser.click("button[value=yes]")
+        check(f"a guest reads: {said}", browser.shows(said, "main"), True)
+    for account, code, said in (
+        ("bo", ("A" if codes[1][0] != "A" else "C") + codes[1][1:], "A letter of the code is wrong"),
+        ("'anton", codes[1], "No account can have this name"),
+    ):
+        ask(browser, account, code)
+        check(f"a guest reads: {said}", browser.shows(said, "main"), True)
 
 
-def server_away(browser, server, restart, code):
-    """A code that the server could not take is redeemed once it is back."""
+def server_away(browser, server, restart, service, code):
+    """A code that the server could not take is credited once it is back."""
     server.kill()
-    fill(browser, "bo", code)
-    check("the server is away", browser.shows("The accounts are away just now"), True)
+    ask(browser, "bo", code)
+    browser.click("button[value=yes]")
+    check("the server is away", browser.shows("The accounts cannot be reached now", "main"), True)
     restart()
-    time.sleep(11)
-    fill(browser, "bo", code)
-    check("it is back: the code is redeemed", browser.shows("Done. bo has 5.00 EUR more."), True)
+    check("it is back: the code is sent again", service.run("minute"), (0, "answered now: 1\n"))
 
 
-def redeem(browser, proxy, server, folder, restart, readable):
+def redeem(browser, proxy, server, service, folder, restart, readable):
     """A guest redeems printed vouchers; each is credited once."""
-    codes = make_vouchers(proxy, folder)
-    process = begin_redeem(proxy, server, folder)
-    try:
-        unknown = forms(proxy, codes)
-        browser.go(proxy.url(f"/redeem/#c={codes[0]}"))
-        check("redeem: it asks for the account", browser.shows("Type your account"), True)
-        address = browser.call("GET", "/url")
-        check("the code has left the address bar", address, proxy.url("/redeem/"))
-        readable(browser, "the redeem page")
-        web_pages.check_texts(browser, "redeem", front_desk.texts_of(names.MAY_NOT))
-        question(browser, proxy, codes[0])
-        by_page(browser, codes, unknown)
-        server_away(browser, server, restart, codes[1])
-    finally:
-        process.terminate()
-        os.killpg(process.pid, 15)
-        process.wait(timeout=10)
+    codes = make_vouchers(service, folder)
+    other = "ACDEF-HJKMN-PQRT"
+    unknown = next(other + it for it in LETTERS if has_check_letter(other + it))
+    browser.go(proxy.url(f"/redeem/?c={codes[0]}"))
+    check("the code is in the form",
+          browser.js("return document.getElementById('code').value"), codes[0])
+    readable(browser, "the redeem page")
+    by_page(browser, codes, unknown)
+    server_away(browser, server, restart, service, codes[1])
     plain = [it.replace("-", "") for it in codes[:2]]
     check("no code is in a log of nginx", holding(proxy.logs, codes + plain), [])
-    found = holding(web_pages.folder(), [REDEEM_KEY, *codes])
-    check("the key and the stock are outside the pages", found, [])
     return [("W-" + codes[0], "Zo%C3%AB & Max", "500"), ("W-" + codes[1], "bo", "500")]

@@ -12,6 +12,7 @@ import threading
 import time
 
 from proxy import Proxy
+from redeeming import live
 from served import CASHIER, GUEST, ROOT, check
 
 # A program for fcgiwrap that answers what nginx gave it.
@@ -22,7 +23,7 @@ body = json.dumps([found, sys.stdin.read(int(os.environ.get("CONTENT_LENGTH") or
 sys.stdout.write("Status: 200\\r\\nContent-Type: application/json\\r\\n\\r\\n" + body)
 """
 SALE = '{"account":"al","sum":1,"voucher":"D1-1"}'
-DESK, REDEEM = ("-H", "Radacctd: desk"), ("-H", "Radacctd: redeem")
+DESK = ("-H", "Radacctd: desk")
 # What a client says of itself, and nobody has verified.
 FORGED = [it for name in ("Radacctd-Cashier", "Remote-User", "X-Remote-User", "REMOTE_USER",
                           "RADACCTD_CASHIER", "Radacctd_Cashier", "X-Forwarded-User",
@@ -35,14 +36,10 @@ FORGED += ["-H", "X-Accel-Redirect: /desk/balances.csv", "-H", "Cookie: cashier=
 URLS = [
     ("GET", "/", (), 200, 200, 200),
     ("GET", "/settings.json", (), 200, 200, 200),
-    ("GET", "/plans.json", (), 200, 200, 200),
-    ("GET", "/me/balance", (), 401, 200, 401),
-    ("GET", "/me/sessions", (), 401, 200, 401),
-    ("GET", "/me/topups", (), 401, 200, 401),
-    ("POST", "/me/balance", (), 403, 403, 403),
-    ("GET", "/me/overruns", (), 404, 404, 404),
+    ("GET", "/me/balance", (), 404, 404, 404),
+    ("GET", "/bootstrap.min.css", (), 200, 200, 200),
     # Handed on as it is, a line end would end the line of the request to the desk.
-    ("GET", "/me/balance%0a", (), 404, 404, 404),
+    ("GET", "/desk/balances.csv%0a", (), 404, 404, 404),
     ("POST", "/desk/topups%0a", (*DESK, "-d", SALE), 404, 404, 404),
     ("GET", "/desk", (), 301, 301, 301),
     ("GET", "/desk/", (), 401, 401, 200),
@@ -67,10 +64,7 @@ URLS = [
     ("GET", "/operator", (), 301, 301, 301),
     ("GET", "/operator/", (), 401, 401, 200),
     ("GET", "/operator/index.html", (), 404, 404, 404),
-    ("GET", "/redeem", (), 301, 301, 301),
-    ("GET", "/redeem/", (), 200, 200, 200),
-    ("POST", "/redeem/code", (*REDEEM, "-d", "{}"), 503, 503, 503),
-    ("POST", "/redeem/code", ("-d", "{}"), 403, 403, 403),
+    ("GET", "/login/", (), 200, 200, 200),
     ("GET", "/radacctd.conf", (), 404, 404, 404),
     ("GET", "/packages.json", (), 404, 404, 404),
 ]
@@ -122,7 +116,7 @@ def begin(folder):
         with open(path, "w", encoding="utf-8") as file:
             file.write(text)
     os.chmod(os.path.join(proxy.folder, "clerk"), 0o755)
-    proxy.settings({})
+    proxy.settings()
     return desk, proxy
 
 
@@ -220,7 +214,10 @@ def logged(proxy):
 def run(folder):
     desk, proxy = begin(folder)
     process = fcgiwrap(os.path.join(proxy.folder, "clerk"), proxy.clerk)
+    service = live.Service(os.path.join(folder, "service"), 9, CASHIER)
+    service.socket = proxy.socket
     try:
+        service.start()
         proxy.start()
         paths = [re.split(r"[?#]", it[1])[0] for it in URLS]
         check("each place of nginx is tried",
@@ -231,6 +228,7 @@ def run(folder):
         missing(proxy)
     finally:
         proxy.end()
+        service.kill()
         os.killpg(process.pid, 15)
         process.wait()
         desk.server.shutdown()

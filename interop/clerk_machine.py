@@ -141,16 +141,12 @@ def plants(box):
     """Whoever may connect chooses variables of the scripts, and lets them load no library."""
     box.write("/srv/ask.py", ASK, 0o644)
     box.must(f"install -m 755 $(ldconfig -p | awk '/libm.so.6/ {{print $NF; exit}}') {PLANTED}")
-    for name, script in (("clerk", "libexec/radacctd/clerk-page"), ("redeem", "sbin/radacctd-redeem")):
-        words = f"python3 /srv/ask.py /run/radacctd-{name}.socket /usr/local/{script}"
-        said = box.run(f"setpriv --reuid www-data --regid www-data --init-groups {words}")[1]
-        check(f"the script of radacctd-{name} answers", "Status: 4" in said or said, True)
-        said = box.must(f"journalctl --sync; journalctl -o cat -u radacctd-{name}")
-        check("and loads no library of nginx' user",
-              bool(re.search(f"{PLANTED}.*failed to map", said)), True)
-    redeem = f"{words} RADACCTD_DESKS=127.0.0.1:9"
-    said = box.run(f"setpriv --reuid www-data --regid www-data --init-groups {redeem}")[1]
-    check("a request that names a desk redeems nothing", "Status: 503" in said or said, True)
+    words = "python3 /srv/ask.py /run/radacctd-clerk.socket /usr/local/libexec/radacctd/clerk-page"
+    said = box.run(f"setpriv --reuid www-data --regid www-data --init-groups {words}")[1]
+    check("the script of radacctd-clerk answers", "Status: 4" in said or said, True)
+    said = box.must("journalctl --sync; journalctl -o cat -u radacctd-clerk")
+    check("and loads no library of nginx' user",
+          bool(re.search(f"{PLANTED}.*failed to map", said)), True)
 
 
 def shut_in(box):
@@ -184,5 +180,4 @@ def page_of_packages(box, clerk):
     check("and wrote what the page sells", [(it["name"], it["price"]) for it in found],
           [("week", 900)])
     settings = json.loads(box.must("cat /etc/radacctd-web/settings.json"))
-    check("the page asks the clerk", (settings["clerk"], settings["time_classes"]),
-          (True, "^no-class-counts-seconds$"))
+    check("the page asks the clerk", settings["clerk"], True)

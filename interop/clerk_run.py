@@ -10,7 +10,7 @@ sys.path.insert(0, os.path.dirname(os.path.abspath(__file__)))
 
 import packages_run
 
-from radacctl import debits, sales_log, stock
+from radacctl import debits, sales_log
 from radacctl.clerk import work
 from radacctl.commands import debit, guest
 from radacctl.doctor import look
@@ -25,7 +25,6 @@ def main():
     books = ["--config", config, "--db", book, "--secret-file", at("books.secret"), "--journal",
              at("debits.csv"), "--port", radius, "--list"]
     sales_log.FILE, debits.FILE = at("nginx/log/radacctd-sales.log"), at("debits.csv")
-    stock.SECOND = at("withdrawn/vouchers.csv")
     # The site has no units, and this machine may have no systemd that could be asked.
     look.properties = lambda *_: {}
     work.words = lambda: guest.parser().parse_args(own)

@@ -45,7 +45,7 @@ class Site:
         changes = [("127.0.0.1:8066", f"127.0.0.1:{box.desk}"),
                    ("/var/lib/radacctd-balances/balances.csv", box.balances)]
         self.proxy = Proxy(os.path.join(folder, "nginx"), front.KILL.CASHIER, changes)
-        self.proxy.settings({}, clerk=True)
+        self.proxy.settings(clerk=True)
         front.written(os.path.join(folder, "clerk.toml"), RIGHTS.format(guests))
         script = os.path.join(self.proxy.folder, "clerk")
         front.written(script, PAGE.format(folder=folder))
@@ -188,8 +188,7 @@ def makes(site):
     works = lambda it: it.startswith(b"/usr/bin/python3\0") and b"clerk_run.py" in it
     saw_it = any(map(works, watch.seen))
     check("no command line and no environment had a secret", (secret, saw_it), ([], True))
-    key = ("-H", f"Desk-Key: {token}")
-    balance = json.loads(site.proxy.curl("/me/balance", *key)[2])
+    balance = site.whole.box.ask("GET", "/me/balance", token)[1]
     check("it has what the package gives", (balance["account"], balance["balance"]), (account, 50))
     check("the card is whole", (len(card["codes"]), card["price"], card["wifi"]), (2, 900, "Hotel"))
     check("the same number is the same guest", site.guest(1),
@@ -218,7 +217,7 @@ def finds_and_ends(site, account):
     check("and ends", [site.ask("anna", act="end", account=account)[1] for _ in range(2)],
           [{"result": "new"}, {"result": "repeat"}])
     check("the key is gone", (account in site.tokens(),
-                              site.proxy.status("/me/balance", key=token)), (False, 401))
+                              site.whole.box.ask("GET", "/me/balance", token)[0]), (False, 401))
     check("no other one", len(site.tokens()), 1)
     check("no other account is ended", site.ask("anna", act="end", account="al")[0], 404)
 

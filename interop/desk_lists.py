@@ -1,5 +1,5 @@
 """Rows of interop/pages: packages as buttons, accounts found by a part of a name, long lists by
-pages, plans of seconds, guests and corrections. The desk and the clerk are stand-ins, as that of
+pages, guests and corrections. The desk and the clerk are stand-ins, as that of
 shifts.py: no program is needed.
 """
 
@@ -23,7 +23,7 @@ ODD = {"name": "odd", "title": "<img src=x onerror=alert(1)>", "price": 100, "cr
 OVER = {**ODD, "name": "over", "title": "Fair", "until": 1}
 PLANS = {"default": {"block": 1048576, "unit": 1, "count": "both"},
          "debit": {"block": 1, "unit": 1, "count": "both"},
-         "hour": {"block": 60, "unit": 2, "count": "in"}}
+         "dear": {"block": 1048576, "unit": 2, "count": "both"}}
 
 
 class Desk(shifts.Desk):
@@ -32,7 +32,6 @@ class Desk(shifts.Desk):
     def __init__(self):
         super().__init__()
         self.accounts, self.debts, self.sessions, self.plans = {}, [], [], PLANS
-        self.classes = "^hour$"
         # What the clerk answers to each act, in their order, and what it was asked.
         self.answers, self.acts = {}, []
 
@@ -61,10 +60,10 @@ class Desk(shifts.Desk):
             "sessions": lambda: {"account": "al", "sessions": self.sessions},
             "topups": lambda: {"account": "al", "topups": []},
             "settings.json": lambda: {"name": "", "currency": "EUR", "decimals": 2,
-                                      "time_classes": self.classes, "clerk": True},
+                                      "clerk": True},
         }
         name = to.path.rsplit("/", 1)[1]
-        pages = {"/": "guest", "/operator/": "operator"}
+        pages = {"/operator/": "operator"}
         if to.path in pages:
             return self.send(to, 200, "text/html; charset=utf-8",
                              web_pages.text_of(pages[to.path]).encode())
@@ -273,47 +272,6 @@ def long_lists(browser, desk):
     browser.js("return refresh()")
     hidden = browser.js("return document.getElementById('over-pages').hidden")
     check("a short list has no pages", (len(rows()), hidden), (3, True))
-
-
-def guest(browser, desk):
-    """10,000 sessions are shown at once, by pages; a plan of seconds counts minutes."""
-    desk.sessions = [session(at) for at in range(SESSIONS)]
-    desk.sessions[-1] = session(SESSIONS, "hour", 3601)
-    begun = time.monotonic()
-    browser.go(f"http://localhost:{desk.port}/#k=guest-key-0000001")
-    check("10,000 sessions are shown", browser.shows("1 to 20 of 10,000", "#sessions-pages"), True)
-    check("soon", time.monotonic() - begun < 8, True)
-    # 7.60 EUR at 2 cents a minute.
-    check("minutes are left", browser.shows("about 380 minutes more", "#octets"), True)
-    check("and no octets", "MB" in browser.text("#octets"), False)
-    check("a session of minutes", "61 minutes" in browser.text("#sessions tr"), True)
-    browser.js("document.querySelectorAll('#sessions-pages button')[1].click()")
-    check("the next page has octets", "1.0 MB" in browser.text("#sessions"), True)
-    for sessions, plans, wanted in (
-        ([], PLANS, "What this buys shows after"),
-        ([], {"default": PLANS["default"], "debit": PLANS["debit"]}, "about 760.0 MB more"),
-        ([session(1, "constructor")], PLANS, "about 760.0 MB more"),
-    ):
-        desk.sessions, desk.plans = sessions, plans
-        browser.click("#again")
-        check(f"{len(sessions)} sessions, {len(plans)} plans: {wanted}",
-              browser.shows(wanted, "#octets"), True)
-    keeps_nothing(browser, desk)
-    desk.classes, desk.sessions = "(", [session(1, "hour", 60)]
-    browser.go(f"http://localhost:{desk.port}/#k=guest-key-0000001")
-    check("a pattern that is none counts no seconds", browser.shows("MB more", "#octets"), True)
-
-
-def keeps_nothing(browser, desk):
-    """A browser whose stores are full shows an account all the same, in each language."""
-    browser.go(f"http://localhost:{desk.port}/")
-    browser.js("sessionStorage.clear();"
-               "Storage.prototype.setItem = () => { throw new Error('full'); };"
-               "document.getElementById('key').value = 'guest-key-0000001';"
-               "document.getElementById('form').requestSubmit()")
-    check("stores that are full: a balance is shown", browser.shows("7.60 EUR left", "#left"), True)
-    browser.js("const it = document.getElementById('language'); it.value = 'de'; it.onchange()")
-    check("and in another language", browser.shows("7,60 EUR übrig", "#left"), True)
 
 
 CARD = {"account": "muller-1128-acde", "password": "aacde-ffhjk", "house": "H", "wifi": "Hotel",
@@ -661,7 +619,7 @@ def forgets(browser, desk):
     browser.js("return new Promise((go) => { indexedDB.deleteDatabase('desk').onsuccess = go; })")
 
 
-PARTS = (finds, sums, sells_packages, long_lists, guest, makes_guests, finds_guests, corrects,
+PARTS = (finds, sums, sells_packages, long_lists, makes_guests, finds_guests, corrects,
          operator, words)
 
 

@@ -51,14 +51,10 @@ def put_proxy(box, key):
     box.write(CASHIER_FILE, text, 0o600)
 
 
-def put_redeem(box, key):
-    """The steps of printed vouchers, with a cashier's key of their own."""
-    lines = steps_of("DESK.md", "To set it up:", "With 16 books there is no redeem page")
-    lines.insert(lines.index("systemctl enable --now radacctd-redeem.socket"),
-                 f"echo {key} > /etc/radacctd-redeem.key")
-    box.must(script_of(lines))
-
-
-def put_jail(box):
-    """The steps of fail2ban."""
-    box.must(script_of(steps_of("DESK.md", "closes no sale:", "- **No browser")))
+def put_service(box, key):
+    """The steps of the pages' service, with a cashier's key of its own, and a person's password."""
+    lines = steps_of("DESK.md", "### The pages' service", "If a page says that it does not work")
+    person = ("radacctl person put", f"echo {LOGIN.partition(':')[2]} | radacctl person put")
+    lines.insert(lines.index("systemctl enable --now radacctd-site.socket radacctd-minute.timer"),
+                 f"echo {key} > /etc/radacctd-site.key")
+    box.must(script_of([it.replace(*person) for it in lines]))

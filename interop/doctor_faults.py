@@ -27,7 +27,6 @@ FORGET_FRONT = "truncate -s 0 /var/log/freeradius/radius.log"
 REPORT = "Tue Nov 14 22:13:20 2023\\n\\tUser-Name = \"al\"\\n\\tTimestamp = 1700000000\\n\\n"
 # The journal of the service without what a row has printed into it.
 FORGET = "journalctl --rotate; journalctl --vacuum-time=1s"
-RELOAD = "systemctl restart freeradius radacctd-mirror radacctd-front"
 
 
 def kept(path, change):
@@ -124,10 +123,10 @@ BREAKS = {
                       "systemctl start radacctd-packages.timer"),
     "packages-logged": edited("s/^\\tauth = no/\\tauth = yes/", f"{RADDB}/radiusd.conf"),
     "nginx-wrong": ("echo 'x y' > /etc/nginx/conf.d/zz.conf", "rm /etc/nginx/conf.d/zz.conf"),
-    "pages-silent": ("chmod 0 /usr/local/share/radacctd/web/guest/index.html",
-                     "chmod 644 /usr/local/share/radacctd/web/guest/index.html"),
-    "key-unknown": kept("/etc/radacctd-redeem.key", "echo other-key-00000001 > "
-                        "/etc/radacctd-redeem.key"),
+    "pages-silent": ("systemctl stop radacctd-site.socket radacctd-site.service",
+                     "systemctl start radacctd-site.socket"),
+    "key-unknown": kept("/etc/radacctd-site.key", "echo other-key-00000001 > "
+                        "/etc/radacctd-site.key"),
     "certificate-ended": kept("/etc/ssl/radacctd.pem", "rm /etc/ssl/radacctd.pem"),
     "certificate-ends": kept(EAP, CERTIFICATE),
     "certificate-old": kept("/etc/ssl/radacctd.pem", "openssl req -x509 -days 300 -subj /CN=x "
@@ -171,12 +170,9 @@ BREAKS = {
                    "/var/lib/radacctd-front/radacctd-front.prom", "systemctl start radacctd-front"),
     "unsent": (f"printf '{REPORT}' > {UNSENT}/detail-1; chown freerad {UNSENT}/detail-1",
                f"rm {UNSENT}/detail-1"),
-    "pages-plans": ("rm /etc/radacctd-web/plans.json", "radacctl pages"),
     "pages-settings": kept("/etc/radacctd-web/settings.json",
                            "echo '{}' > /etc/radacctd-web/settings.json"),
     "fcgiwrap-open": ("systemctl start fcgiwrap.socket", "systemctl stop fcgiwrap.socket"),
-    "fail2ban-down": ("systemctl stop fail2ban", "systemctl start fail2ban"),
-    "fail2ban-desk": edited("/^ignoreip/d", "/etc/fail2ban/jail.d/radacctd.conf"),
     "log-open": ("chmod 644 /var/log/nginx/radacctd-sales.log",
                  "chmod 640 /var/log/nginx/radacctd-sales.log"),
     "copy-old": (f"touch -d '2 days ago' {COPIES}/20*", f"touch {COPIES}/20*"),

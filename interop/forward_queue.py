@@ -23,7 +23,6 @@ OPEN, STOPPED = 0, 2
 INTERIM, STOP = 3, 2
 # How many reports go through the queue in each step.
 REPORTS = 300
-REWRITE = [os.path.join(front.ROOT, "etc", "tools", "radacctl"), "rewrite"]
 
 
 def highest(pid):
@@ -196,7 +195,7 @@ def before(book, radius, model):
 
 
 def run(book, radius, model):
-    """Carries sessions forward while FreeRADIUS takes reports, and makes the file anew."""
+    """Carries sessions forward while FreeRADIUS takes reports."""
     export = words_of(book, "export", "overruns")
     start = show_start(export, book.book, "before")
     queued(radius, "of new sessions meanwhile", model.new(REPORTS))
@@ -204,12 +203,6 @@ def run(book, radius, model):
     check("the run ends well", status, 0)
     print(f"          forward: {seconds:.1f} s, {memory:.0f} MB, a start has {start:.0f}; {load()}")
     show_start(export, book.book, "after")
-    words = [*REWRITE, "--config", book.config, book.book]
-    begun = time.monotonic()
-    done = subprocess.run(words, capture_output=True, text=True)
-    check("the file is made anew", (done.returncode, done.stdout.count("before,")), (0, 1))
-    print(f"          radacctd-rewrite: {time.monotonic() - begun:.1f} s, {load()}")
-    show_start(export, book.book, "made anew")
 
 
 def after(book, radius, model):

@@ -19,7 +19,7 @@ import old_memory
 FOLDER = os.path.dirname(os.path.abspath(__file__))
 ROOT = os.path.dirname(FOLDER)
 FILES = os.path.join(ROOT, "etc", "freeradius")
-PROGRAMS = ("balances-mirror", "kept-sessions")
+PROGRAMS = ("balances-mirror",)
 PLANS_IN_FORCE = os.path.join(ROOT, "etc", "plans-in-force")
 # The folders of the queue's readers.
 READERS = [f"reader-{number}" for number in range(8)]
@@ -29,15 +29,14 @@ SECRET = "testing-123"
 BOOK_SECRET = "testing-456"
 # radacctd's client for all that FreeRADIUS sends, and its address.
 FRONT = ("freeradius", "127.0.0.1")
-# The access servers: where each sends from, and its client in FreeRADIUS' first edition.
-ACCESS_SERVERS = {"ap1": ("127.0.2.1", "127.0.1.1"), "ap2": ("127.0.2.2", "127.0.1.2")}
+# The access servers: where each sends from.
+ACCESS_SERVERS = {"ap1": "127.0.2.1", "ap2": "127.0.2.2"}
 ACCOUNTS = ["al", "bo", "room 12, 50%"]
 # Class, block, unit and what is counted.
 PLANS = [
     ("gold", MEBIBYTE, 10, "both"),
     ("up", MEBIBYTE, 10, "in"),
     ("down", MEBIBYTE, 10, "out"),
-    ("hour", 60, 1, "in"),
     ("free", MEBIBYTE, 0, "both"),
     ("huge", 1 << 53, 1, "both"),
     ("dear", 1, 1_000_000_000, "both"),
@@ -238,12 +237,8 @@ class Book(KILL.Server):
         self.desk = KILL.free_port(KILL.socket.SOCK_STREAM)
 
     def configuration(self):
-        clients = [(*FRONT, BOOK_SECRET)]
-        clients += [(name, old, SECRET) for name, (_, old) in ACCESS_SERVERS.items()]
-        text = "".join(
-            f'[[client]]\nname = "{name}"\naddress = "{address}"\nsecret = "{secret}"\n'
-            for name, address, secret in clients
-        )
+        name, address = FRONT
+        text = f'[[client]]\nname = "{name}"\naddress = "{address}"\nsecret = "{BOOK_SECRET}"\n'
         text += "".join(
             f'[[plan]]\nclass = "{name}"\nblock = {block}\nunit = {unit}\ncount = "{count}"\n'
             for name, block, unit, count in PLANS
@@ -340,7 +335,6 @@ class FreeRadius:
             "sites-enabled/more": self.sites,
             "access-servers.conf": self.access_servers(),
             "radacctd/settings.conf": self.settings(book, settings),
-            "radacctd/kept": text_of("kept"),
             "radacctd/attributes": text_of("attributes"),
             "radacctd/readers": text_of("readers"),
             "radacctd/queue.pl": text_of("queue.pl"),
@@ -404,7 +398,7 @@ class FreeRadius:
         return subprocess.run(words, input=text, capture_output=True, text=True).stdout
 
     def reports(self, access_server, attributes):
-        source = ACCESS_SERVERS.get(access_server, (access_server,))[0]
+        source = ACCESS_SERVERS.get(access_server, access_server)
         said = self.radclient("acct", self.acct, source, attributes)
         return "Received Accounting-Response" in said
 

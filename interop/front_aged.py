@@ -1,13 +1,12 @@
-"""Parts of interop/freeradius: reports that waited long, and those of a site that moves here."""
+"""Parts of interop/freeradius: reports that waited long."""
 
 import os
 import socket
-import subprocess
 import time
 import types
 
 import front
-from front import FILES, MEBIBYTE, SECRET, check, report, waits_for
+from front import SECRET, check, report, waits_for
 from front_parts import both, count_in, part
 from front_sender import Sender, attribute
 
@@ -87,106 +86,6 @@ def old(folder):
             total = before[0] - 20 * number
             waits_for("and charged, and so is one that waited", lambda: book.balance("bo"), total)
         check("and none is filed", count_in(radius.unsent), before[1])
-
-
-FIRST_EDITION = """
-home_server radacctd-ap1 {{
-	type = acct
-	ipaddr = 127.0.0.1
-	port = {port}
-	src_ipaddr = 127.0.1.1
-	secret = {secret}
-	status_check = none
-}}
-home_server_pool radacctd-ap1 {{
-	type = fail-over
-	home_server = radacctd-ap1
-}}
-listen {{
-	type = detail
-	virtual_server = radacctd
-	filename = {queues}/ap1/detail-*
-	track = yes
-	load_factor = 100
-	poll_interval = 1
-	retry_interval = 5
-}}
-"""
-# A report that the first edition had queued.
-QUEUED = """Thu Nov 26 10:00:00 2026
-\tAcct-Status-Type = Interim-Update
-\tAcct-Session-Id = "M-2"
-\tUser-Name = "bo"
-\tClass = 0x676f6c64
-\tAcct-Input-Octets = 1048576
-\tTmp-String-8 = "ap1"
-\tTimestamp = {now}
-
-"""
-
-
-@part
-def moved(folder):
-    """A session that is open while a site leaves the first edition is charged once."""
-    with both(folder) as (book, radius):
-        radius.kill()
-        send_first_edition(book)
-        check("two blocks are charged before the move", book.balance("al"), -20)
-        old = os.path.join(radius.queue, "ap1", "detail-20261126:10")
-        front.written(old, QUEUED.format(now=int(time.time())))
-        # What came since the move is no session of before.
-        newer = os.path.join(radius.queue, "reader-0", "detail-20261126:10")
-        front.written(newer, QUEUED.format(now=int(time.time())))
-        book.kill()
-        sessions = os.path.join(folder, "sessions.csv")
-        front.written(sessions, book.export("sessions"))
-        book.start()
-        words = [os.path.join(FILES, "kept-sessions"), sessions, radius.queue]
-        done = subprocess.run(words + ["ap2=127.0.2.2"], capture_output=True, text=True)
-        wanted = (1, "", "kept-sessions: give the address of ap1\n")
-        check("an access server is forgotten", (done.returncode, done.stdout, done.stderr), wanted)
-        done = subprocess.run(words + ["ap1=127.0.2.1"], capture_output=True, text=True)
-        check(
-            "sessions are listed",
-            (done.returncode, done.stderr),
-            (0, "kept-sessions: 3 sessions\n"),
-        )
-        front.written(os.path.join(radius.raddb, "radacctd", "kept"), done.stdout)
-        os.remove(newer)
-        text = FIRST_EDITION.format(port=book.radius, secret=SECRET, queues=radius.queue)
-        front.written(os.path.join(radius.raddb, "sites-enabled", "old-ap1"), text)
-        radius.start()
-        waits_for("the old queue is sent", lambda: book.balance("bo"), -10)
-        after_the_move(book, radius)
-
-
-def send_first_edition(book):
-    """What an access server of the first edition reported before the move."""
-    direct = ["radclient", "-r", "1", "-t", "2", f"127.0.0.1:{book.radius}", "acct", SECRET]
-    for session, account in (("M-1", "al"), ("M-4", "DOM\\\\nick")):
-        lines = ["Packet-Src-IP-Address = 127.0.1.1"]
-        lines += report("Interim-Update", session, account, 2 * MEBIBYTE)
-        subprocess.run(direct, input="\n".join(lines) + "\n", capture_output=True, text=True)
-
-
-def after_the_move(book, radius):
-    for identifier, account in (("M-4", "DOM\\\\nick"), ("M-1", "al"), ("M-2", "bo")):
-        done = radius.reports("ap1", report("Stop", identifier, account, 3 * MEBIBYTE))
-        check(f"the Stop of {identifier} is answered", done, True)
-    pair = lambda: (book.balance("al"), book.balance("bo"))
-    waits_for("each is charged for what is new", pair, (-30, -30))
-    named = [(row["client"], row["session"]) for row in book.rows("al")]
-    check("by its old client and id", named, [("ap1", "M-1")])
-    radius.reports("ap1", report("Stop", "M-1", "bo", MEBIBYTE))
-    waits_for("the id M-1 for somebody else: his own", pair, (-30, -40))
-    radius.reports("ap1", report("Start", "M-3", "al", 1))
-    waits_for("a new session is charged", pair, (-40, -40))
-    clients = sorted(row["client"] for row in book.rows("al"))
-    check("by the new client", clients, ["ap1", "freeradius"])
-    waits_for("the queue is empty", lambda: count_in(radius.queue), 0)
-    book.kill()
-    rows = [it for it in book.export("sessions").splitlines() if "M-4" in it]
-    check("a user of a domain has one session, too", len(rows), 1)
 
 
 PAIR = """

@@ -155,7 +155,7 @@ def shift(browser, server):
     row = ["D1", "anna", "3", "0.00 EUR", "13.50 EUR"]
     check("by desk and cashier", totals(browser), [row])
     browser.js("document.querySelector('#sales tr:last-child button:last-child').click()")
-    found = re.search(r"radacctd-debit -- '(.*)' (\d+) (\S+)$", browser.text("#correction"))
+    found = re.search(r"radacctl debit -- '(.*)' (\d+) (\S+)$", browser.text("#correction"))
     check("a wrong sale has its command", found and found.groups()[:2], ("room 12", "500"))
     browser.js("window.confirm = () => true")
     browser.click("#took")
@@ -304,13 +304,13 @@ def refusals(browser, proxy):
 def old_password(browser, proxy):
     """A page whose password no longer holds asks once, and then asks its cashier."""
     browser.log_in("anna", "the-former-one")
-    before = len([it for it in proxy.log("radacctd.log") if it["guess"]])
+    refused = lambda: len([it for it in proxy.log("radacctd.log") if it["status"] in (401, 403)])
+    before = refused()
     said = browser.shows("login is not taken", "#message", 30)
     is_hidden = browser.js("return document.getElementById('again').hidden")
     check("an old password: the page says so, with a button", (said, is_hidden), (True, False))
     time.sleep(12)
-    wrong = [it for it in proxy.log("radacctd.log") if it["guess"]]
-    check("and asks no more: one or two count", len(wrong) - before in (1, 2), True)
+    check("and asks no more: one or two are refused", refused() - before in (1, 2), True)
     sell(browser, "bo", "9")
     check("nor does it sell", browser.text("#pending").strip(), "None")
     browser.log_in("anna", "anna-has-a-pass")

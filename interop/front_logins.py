@@ -27,8 +27,7 @@ def logins(folder):
     """A login below one unit is refused, others get their quota."""
     lines = "client {0} {{\n\tipaddr = {1}\n\tsecret = {2}\n\tradacctd_quota = {0}\n}}\n"
     clients = "".join(lines.format(*pair, SECRET) for pair in QUOTAS.items())
-    settings = [("time_classes", '"^hour$"')]
-    with both(folder, clients=clients, settings=settings) as (book, radius):
+    with both(folder, clients=clients) as (book, radius):
         refused = (False, {"Reply-Message": SPENT})
         # The mirror is made meanwhile.
         waits_for("without money a login is refused", lambda: told(radius, "al"), refused)
@@ -75,7 +74,6 @@ def directions(radius):
         ("127.0.3.2", "gold", {"pfSense-Max-Total-Octets": ten}),
         ("127.0.3.2", "up", {}),
         ("127.0.3.3", "gold", {}),
-        ("127.0.3.3", "hour", {"Session-Timeout": "6300"}),
         ("127.0.3.1", "unknown", {"ChilliSpot-Max-Total-Octets": "21000000"}),
     ]
     for source, plan, wanted in rows:
@@ -96,7 +94,6 @@ def caps(radius):
         told(radius, "most", "huge"),
         (True, wanted),
     )
-    check("hours too", told(radius, "most", "hour"), (True, {"Session-Timeout": "2147483647"}))
 
 
 def spent_and_bought(book, radius):
@@ -107,9 +104,6 @@ def spent_and_bought(book, radius):
     book.sell("al", 15, "V-2")
     wanted = (True, {MIKROTIK[0]: "1048576", MIKROTIK[1]: "0"})
     waits_for("a voucher, and he is accepted", lambda: told(radius, "al"), wanted)
-    seconds = report("Stop", "Q-2", "al", 999, ["Acct-Session-Time = 301"], "hour")
-    check("301 seconds are reported", radius.reports("ap1", seconds), True)
-    waits_for("at 1 a minute they cost 6", lambda: book.balance("al"), 4)
     book.kill()
     radius.mirroring.kill()
     time.sleep(3)
@@ -164,8 +158,6 @@ def by_last_balances(radius, path, text):
     check("another account has its own count", told(radius, "most"), quota(10))
     short = (True, {"Session-Timeout": "900"})
     check("no quota can be sent: 900 seconds", told(radius, "most", "gold", "127.0.3.3"), short)
-    hours = told(radius, "most", "hour", "127.0.3.3")
-    check("hours are capped, too", hours, (True, {"Session-Timeout": "1500"}))
 
 
 def names_of_the_tools():

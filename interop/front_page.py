@@ -48,7 +48,7 @@ def set_up(box, staged):
     modes = box.must(f"stat -c '%A %U %G' {FOLDER}/plans.csv {FOLDER}/plans.json").splitlines()
     check("the service writes the plans, for their group", modes,
           2 * ["-rw-r----- radacctd radacctd-balances"])
-    box.must("radacctd-pages")
+    box.must("radacctl pages")
     pair_page.install_freeradius(box)
     lines = '\n\tupdate reply {\n\t\t&Class = "silver"\n\t}\n\tradacctd_login\n'
     default = f"{RADDB}/sites-available/default"

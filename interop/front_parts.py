@@ -165,7 +165,7 @@ def ids(folder):
         # Not by radclient, which would take some for texts to expand.
         for name in NAMES:
             packet = packet_of("N-1", name, 1, 2)
-            done = Sender(radius.acct).send([(ACCESS_SERVERS["ap1"][0], packet)])
+            done = Sender(radius.acct).send([(ACCESS_SERVERS["ap1"], packet)])
             check(f"a session N-1 of {name!r} is answered", done, 1)
         waits_for("the queue is empty", lambda: count_in(radius.queue), 0)
         check("and none is filed", count_in(radius.unsent), 0)
@@ -373,7 +373,7 @@ def by_radsec(book, radius, udp):
     for name in ("ap1", "ap2"):
         more = [f'NAS-Identifier = "{name}"']
         lines = report("Interim-Update", "S-1", "al", MEBIBYTE, more)
-        said = radius.radclient("acct", udp, ACCESS_SERVERS[name][0], lines, 3)
+        said = radius.radclient("acct", udp, ACCESS_SERVERS[name], lines, 3)
         check(f"session S-1 of {name} is answered", "Received Accounting-Response" in said, True)
     waits_for("each is charged", lambda: book.balance("al"), -20)
     check("by a session of its own", len(book.rows("al")), 2)

@@ -117,7 +117,7 @@ def numbers(book, radius):
         # A reader removes its last file later.
         waits_for("and empty", lambda: count_in(radius.queue), 0)
     queue_again(radius, waited("E-1", 0) + waited("E-2", 0))
-    waits_for("a queue of an earlier version, too", lambda: book.balance("bo"), total - 20)
+    waits_for("what is sent again is, too", lambda: book.balance("bo"), total - 20)
 
 
 @part

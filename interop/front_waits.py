@@ -166,8 +166,6 @@ def in_places(kept):
     for number, name in enumerate(names):
         kept.put(record(200 + 100 * number), name)
         kept.becomes(f"in {name}", 200 + 100 * number)
-    kept.put(record(500), "s3/detail-2-3.5")
-    kept.becomes("of one of 16 books, whose accounts alone are old", 0)
     kept.put(record(800), "notes")
     kept.becomes("a file that no reader reads", 0)
     kept.put(record(300), "reader-0/detail-2")

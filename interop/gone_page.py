@@ -1,34 +1,32 @@
 """Follows docs/GONE.md: a machine with a whole site, and an empty one that gets its copy."""
 
-import json
 import os
 import re
 import shutil
-import time
 
 import desk_page
 import pair_page
+import redeeming
 from front import ROOT, waits_for
 from pair_page import CASHIER, RADDB, replaced
 from served import check
 from service import BALANCES, BOOK, CONFIG, until
 
 PAGE = os.path.join(ROOT, "docs", "GONE.md")
-REDEEM_KEY, URL = "redeem-key-0000001", "https://localhost"
-SITE = pair_page.SITE + f'[[key]]\ntoken = "{REDEEM_KEY}"\ncashier = true\n'
+SITE_KEY, URL = "site-key-000000001", "https://localhost"
+SITE = pair_page.SITE + f'[[key]]\ntoken = "{SITE_KEY}"\ncashier = true\n'
 # A user who may log in, and what FreeRADIUS is to do then.
 USER = 'al Cleartext-Password := "al-pass"\n'
 LOGIN = '\npost-auth {\n\tupdate reply {\n\t\t&Class = "gold"\n\t}\n\tradacctd_login\n'
 PAIR = "RADACCTD_OWN=127.0.0.1\nRADACCTD_OTHER=127.0.0.1\n"
 # What a site has in files of its own, which must be as it was, with owner and rights.
-FILES = [CONFIG, "/etc/default/radacctd", "/etc/default/radacctd-pair", "/etc/radacctd-redeem.key"]
+FILES = [CONFIG, "/etc/default/radacctd", "/etc/default/radacctd-pair", "/etc/radacctd-site.key"]
 FILES += ["/etc/radacctd-cashier.key", "/etc/radacctd-books.secret", "/etc/radacctd-web/*.json"]
 FILES += ["/etc/nginx/radacctd/*", "/etc/nginx/conf.d/*", "/var/lib/radacctd-withdrawn/*"]
-FILES += ["/var/lib/radacctd-vouchers/*.csv", "/var/lib/radacctd-vouchers/given/*"]
 FILES += [f"{RADDB}/radacctd/*", f"{RADDB}/radiusd.conf", f"{RADDB}/sites-enabled/*"]
 FILES += [f"{RADDB}/mods-enabled/radacctd", desk_page.CERTIFICATE, desk_page.PRIVATE_KEY]
 FILES += ["/etc/systemd/system/radacctd*.service", "/var/lib/radacctd-books/*"]
-UNITS = ["radacctd", "radacctd-mirror", "radacctd-redeem.socket", "radacctd-outbox", "freeradius"]
+UNITS = ["radacctd", "radacctd-mirror", "radacctd-site.socket", "radacctd-outbox", "freeradius"]
 UNITS += ["nginx", "radacctd-nightly.timer", "radacctd-key.timer"]
 
 
@@ -50,8 +48,7 @@ class Asking:
         return int(status), text
 
     def redeem(self, account, code):
-        body = json.dumps({"account": account, "code": code})
-        return self.web("/redeem/code", "-H", "Radacctd: redeem", "-d", body)[0]
+        return redeeming.redeem(self.box.beside, URL, account, code)
 
     def may_log_in(self):
         """Whether FreeRADIUS accepts a login."""
@@ -77,9 +74,10 @@ class Asking:
         """What a site looks like."""
         box = self.box
         found = {"exports": self.exports(), "files": self.files()}
-        found["sheets"] = [box.must(f"radacctd-vouchers --list {it}") for it in ("", *self.sheets)]
-        found["keys"] = box.must("radacctd-key list")
-        found["debits"] = box.must("radacctd-debit --list")
+        found["sheets"] = [box.must(f"radacctl voucher list {it}") for it in ("", *self.sheets)]
+        found["persons"] = box.must("radacctl person list")
+        found["keys"] = box.must("radacctl key list")
+        found["debits"] = box.must("radacctl debit --list")
         found["outbox"] = self.outbox("--list")
         found["groups"] = sorted(box.must("getent group radacctd-balances").strip()
                                  .rsplit(":", 1)[1].split(","))
@@ -88,8 +86,7 @@ class Asking:
         found["others"] = box.run("systemctl is-enabled fcgiwrap.socket")[1].strip()
         found["pages"] = [self.web(it)[0] for it in ("/", "/desk/", "/redeem/")]
         found["desk"] = self.web("/desk/", "-u", desk_page.LOGIN)[0]
-        key = ("-H", f"Desk-Key: {self.key}")
-        found["guest"] = self.web("/me/balance", *key)[1]
+        found["guest"] = " left" in self.web("/", "-H", f"Cookie: __Host-guest={self.key}")[1]
         found["login"] = self.may_log_in()
         return found
 
@@ -127,9 +124,9 @@ class Lost(Asking):
         desk_page.put_proxy(box, CASHIER)
         box.must(f"sed -i 's|\"url\": \"\"|\"url\": \"{URL}\"|' /etc/radacctd-web/settings.json")
         box.must("systemctl restart nginx; systemctl enable nginx 2>&1")
-        desk_page.put_redeem(box, REDEEM_KEY)
+        desk_page.put_service(box, SITE_KEY)
         self.set_up_pair()
-        keys = f"{CASHIER}\n{REDEEM_KEY}"
+        keys = f"{CASHIER}\n{SITE_KEY}"
         for name, text in (("books.secret", "books-secret"), ("cashier.key", keys)):
             box.write(f"/etc/radacctd-{name}", text + "\n", 0o600)
         timers = "radacctd-nightly.timer radacctd-key.timer radacctd-outbox"
@@ -149,24 +146,21 @@ class Lost(Asking):
         """Sales, reports, codes, keys and debits."""
         box = self.box
         text = "voucher,account,sum\\nA-1,al,500\\nA-2,bo,70\\n"
-        box.must(f"printf '{text}' | radacctd-sell --key-file /etc/radacctd-cashier.key")
-        told = box.must(f"printf 'voucher,account,sum\\nB-1,cy,60\\n' | radacctd-sell"
+        box.must(f"printf '{text}' | radacctl sell --key-file /etc/radacctd-cashier.key")
+        told = box.must(f"printf 'voucher,account,sum\\nB-1,cy,60\\n' | radacctl sell"
                         " --key-file /etc/radacctd-cashier.key")
         check("a sale by the outbox", "added 1" in told, True)
         check("a report", pair_page.report(box, "S-1", "al", 3 << 20), True)
         waits_for("is charged", lambda: "al,470,0" in box.must(f"cat {BALANCES}"), True, 60)
         for _ in range(2):
-            box.must("cd /root && radacctd-vouchers --count 3 --sum 5.00")
-            time.sleep(1.1)
-        self.sheets = sorted(it[:-4] for it in box.must("cd /root && ls vouchers-*.csv").split())
-        for name in self.sheets:
-            text = box.must(f"cat /root/{name}.csv")
-            self.codes.append(re.findall(r"(?m)^([A-Z0-9-]{17}),", text))
+            name, codes = redeeming.sheet(box.must, 3)
+            self.sheets.append(name)
+            self.codes.append(codes)
         check("a code is redeemed", self.redeem("dan", self.codes[0][0]), 200)
-        box.must(f"radacctd-vouchers --yes --withdraw {self.sheets[1]}")
-        told = box.must("radacctd-key new al --days 300")
+        box.must(f"radacctl voucher withdraw --yes {self.sheets[1]}")
+        told = box.must("radacctl key new al --days 300")
         self.key = told.split(" ")[-1].strip()
-        box.must("radacctd-debit --port 11813 bo 7 VOID-A-2 2>&1")
+        box.must("radacctl debit --port 11813 bo 7 VOID-A-2 2>&1")
         waits_for("the debit", lambda: "bo,63,0" in box.must(f"cat {BALANCES}"), True, 60)
         waits_for("al logs in", self.may_log_in, True, 30)
 
@@ -188,7 +182,7 @@ class Lost(Asking):
 
 def commands(title):
     """The commands of each numbered step of a part of the page."""
-    return pair_page.steps(pair_page.section(PAGE, title).split("With 16 books, step 6")[0])
+    return pair_page.steps(pair_page.section(PAGE, title))
 
 
 class Again(Asking):
@@ -242,15 +236,15 @@ class Again(Asking):
         check("a redeemed code is not another guest's", self.redeem("eve", self.codes[0][0]), 409)
         check("a live code is redeemed", self.redeem("eve", self.codes[0][1]), 200)
         text = "voucher,account,sum\\nA-1,al,500\\nA-3,al,30\\n"
-        told = box.must(f"printf '{text}' | radacctd-sell --key-file /etc/radacctd-cashier.key")
+        told = box.must(f"printf '{text}' | radacctl sell --key-file /etc/radacctd-cashier.key")
         check("a file is given again", "added 1, repeated 1, refused 0\n" in told, True)
         check("a report", pair_page.report(box, "S-1", "al", 4 << 20), True)
         waits_for("is charged", lambda: "al,490,0" in box.must(f"cat {BALANCES}"), True, 60)
-        box.must("radacctd-debit --port 11813 bo 7 VOID-A-2 2>&1")
-        told = box.run("radacctd-debit --port 11813 cy 7 VOID-A-2")
+        box.must("radacctl debit --port 11813 bo 7 VOID-A-2 2>&1")
+        told = box.run("radacctl debit --port 11813 cy 7 VOID-A-2")
         check("a debit's number is known", (told[0], "was given before" in told[1]), (1, True))
         box.must("systemctl start radacctd-nightly")
         box.must("systemctl restart radacctd-outbox")
-        told = box.must(f"printf 'voucher,account,sum\\nB-1,cy,60\\nB-2,cy,1\\n' | radacctd-sell"
+        told = box.must(f"printf 'voucher,account,sum\\nB-1,cy,60\\nB-2,cy,1\\n' | radacctl sell"
                         " --key-file /etc/radacctd-cashier.key")
         check("the outbox knows its sale", "added 1, repeated 1, refused 0\n" in told, True)

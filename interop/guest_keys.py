@@ -1,8 +1,8 @@
 """Rows of interop/tools: guests' keys end when they are ended, whatever else waits.
 
-A copy that an edit left, a plan that waits, many at once, kills at each call and at random moments,
-a full disk, a wrong configuration, a server that hangs or is down, an editor that is open or fails,
-locks and stops of the service's user, and a program that only looks like a server.
+A plan that waits, many at once, kills at each call and at random moments, a full disk, a wrong
+configuration, a server that hangs or is down, locks and stops of the service's user, and a program
+that only looks like a server.
 """
 
 import collections
@@ -20,8 +20,7 @@ import tomllib
 from served import check, free_port
 
 PLAN = '\n[[plan]]\nclass = "debit"\nblock = 1\nunit = 1\n'
-KEY = re.compile(r"[a-z0-9]{5}(?:-[a-z0-9]{5}){4}")
-# The calls of radacctd-key that change the disk.
+# The calls of radacctl key that change the disk.
 CALLS = ("unlink", "fchown", "fchmod", "fsync", "rename")
 MANY = 16
 LONGEST = 300
@@ -74,13 +73,13 @@ def run(words, **more):
 
 
 class Keys:
-    """Runs radacctd-key over a site."""
+    """Runs radacctl key over a site."""
 
     def __init__(self, site, config=None, wait=30):
         self.site, self.config, self.wait = site, config or site.config, wait
 
     def words(self, *more):
-        words = [self.site.tool("radacctd-key"), "--config", self.config]
+        words = [self.site.tool("radacctl"), "key", "--config", self.config]
         return [*words, "--wait", str(self.wait), *more]
 
     def __call__(self, *more, before=()):
@@ -120,24 +119,6 @@ class Keys:
         mark = text.rindex("until ", 0, at)
         text = text[:mark] + re.sub(r"until \S+", "until 2026-01-01T12:00", text[mark:], count=1)
         put(self.config, text)
-
-
-def left_copy(keys):
-    """A copy that an edit left: it may have what it likes."""
-    token, other = keys.new("anna-1"), keys.new("bert-1", "--days", "1")
-    copy = keys.config + ".edit"
-    text = keys.text() + "# an edit that is not done\n"
-    put(copy, text, like=keys.config)
-    check("a left copy hinders no end of a key", keys("revoke", "anna-1"), ENDED)
-    check("the desk knows it no longer", (keys.opens(token), keys.opens(other)), (False, True))
-    keys.age("bert-1")
-    check("nor the hourly end", keys("expire"), ENDED)
-    check("the desk knows it no longer", keys.opens(other), False)
-    check("nor a new key", keys.opens(keys.new("carl-1")), True)
-    check("which ends", keys("revoke", "carl-1")[:2], (0, "ended 1 keys\n"))
-    check("the copy is as it was", text_of(copy), text)
-    check("and nothing else is left", keys.left(), [os.path.basename(copy)])
-    os.remove(copy)
 
 
 def waiting_plan(keys):
@@ -379,77 +360,6 @@ def failing_calls(keys):
     keys("revoke", token)
 
 
-def open_editor(keys, edit, folder):
-    """An editor is open, or its copy is left: keys end, and don't come back by it."""
-    config, flag, end = keys.config, f"{folder}/is-open", f"{folder}/go-on"
-    ended, stays = keys.new("nora-1"), keys.new("olaf-1")
-    editor = f"{folder}/slow-editor"
-    put(editor, f'#!/bin/sh\necho "# by hand" >>"$1"; touch {flag}\n'
-        f"while [ ! -e {end} ]; do sleep 0.1; done\n")
-    os.chmod(editor, 0o755)
-    env = {**os.environ, "EDITOR": editor, "VISUAL": ""}
-    how = {"stdin": subprocess.DEVNULL, "stdout": subprocess.PIPE, "stderr": subprocess.PIPE}
-    editing = subprocess.Popen(edit.words("--log", keys.site.errors), env=env, text=True, **how)
-    until(lambda: os.path.exists(flag))
-    check("while an editor is open a key ends", keys("revoke", "nora-1"), ENDED)
-    made = keys.new("paul-1")
-    got = keys.opens(ended), keys.opens(made)
-    check("the desk knows the one, and not the other", got, (False, True))
-    put(end, "")
-    said = editing.communicate(timeout=LONGEST)
-    check("the edit is written", (editing.returncode, "# by hand" in keys.text()), (0, True))
-    check("and says so", "your copy gets the same" in said[1], True)
-    got = [it in keys.tokens() for it in (ended, made)]
-    check("the keys are as they were", got, [False, True])
-    check("for the desk, too", [keys.opens(it) for it in (ended, made, stays)], [False, True, True])
-    check("nothing is left", keys.left(), [])
-    left_by_editor(keys, edit, stays, made)
-    put(config, re.sub("(?m)^# by hand\n", "", keys.text()))
-
-
-def left_by_editor(keys, edit, first, second):
-    """An edit that was given up, and goes on after keys were ended and made."""
-    bad = "sed -i s/127.0.0.1/127.0.0.01/"
-    check("an edit is given up", edit(bad)[0], 1)
-    keys("revoke", "olaf-1")
-    third = keys.new("quin-1")
-    mend = "sed -i s/127.0.0.01/127.0.0.1/"
-    status, said = edit(mend, "--log", keys.site.errors, answers="c\n")
-    check("it goes on", (status, "your copy gets the same" in said), (0, True))
-    wanted = [False, True, True]
-    got = [it in keys.tokens() for it in (first, second, third)]
-    check("without the ended key, with the new one", got, wanted)
-    check("for the desk, too", [keys.opens(it) for it in (first, second, third)], wanted)
-    copy = keys.config + ".edit"
-    put(copy, keys.text() + "# by an older version\n", like=keys.config)
-    keys("revoke", "paul-1")
-    status, said = edit("true", "--log", keys.site.errors, answers="c\n")
-    check("a copy of an older version goes on", (status, "older" in keys.text()), (0, True))
-    check("without the ended key", (second in keys.tokens(), third in keys.tokens()), (False, True))
-    keys("revoke", "quin-1")
-    put(keys.config, keys.text().replace("# by an older version\n", ""))
-    check("nothing is left", keys.left(), [])
-
-
-def edit_with_plan(keys, edit, folder):
-    """What radacctd-edit says of a plan that is new is so: keys and clients are taken at once."""
-    before = keys.text()
-    added = f"{folder}/added-plan"
-    key = 'token = "plan-key-0000000001"\\naccount = "rosa-1"'
-    text = PLAN.replace("\n", "\\n").replace('"', '\\"') + "\\n[[key]]\\n" + key.replace('"', '\\"')
-    put(added, f'#!/bin/sh\nprintf "{text}\\n" >>"$1"\n')
-    os.chmod(added, 0o755)
-    status, said = edit(added, "--log", keys.site.errors, answers="w\n")
-    check("a file with a new plan is written", status, 4)
-    check("of which nothing says that it is refused", "refuses" in said, False)
-    told = "takes the clients and keys of this file at once" in said
-    told = told and "its clients and keys are in force, and its plans are not" in said
-    check("but what is in force", told, True)
-    check("and its key is in force", keys.opens("plan-key-0000000001"), True)
-    put(keys.config, before)
-    until(lambda: not keys.opens("plan-key-0000000001"))
-
-
 def as_user(keys, words, name="radacctd", **more):
     """Starts a command as another user."""
     words = [f"{keys.site.prefix}/libexec/radacctd/as-owner", "--as", name, *words]
@@ -461,19 +371,18 @@ def end(process):
     process.wait()
 
 
-def foreign_locks(keys, edit):
-    """The service's user locks all that it may read, for ever: keys end, and edits go on."""
+def foreign_locks(keys):
+    """The service's user locks all that it may read, for ever: keys end."""
     if os.geteuid():
         print("skipped  locks of another user: it wants root")
         return
-    config, token, before = keys.config, keys.new("wolf-1"), keys.text()
-    lock, base = config + ".lock", config + ".edit-base"
-    put(base, before, like=config)
+    config, token = keys.config, keys.new("wolf-1")
+    lock = config + ".lock"
     put(lock, "")
     os.chmod(lock, 0o644)
-    holders = [as_user(keys, ["flock", it, "sleep", "600"]) for it in (config, lock, base)]
+    holders = [as_user(keys, ["flock", it, "sleep", "600"]) for it in (config, lock)]
     try:
-        for it in (config, lock, base):
+        for it in (config, lock):
             free = lambda: run(["flock", "-n", it, "true"])[0] == 0
             check(f"the service's user locks {it[len(config):] or 'the configuration'}",
                   until(lambda: not free()), True)
@@ -482,13 +391,10 @@ def foreign_locks(keys, edit):
         check("at once", time.monotonic() - begun < 30, True)
         check("for the desk, too", keys.opens(token), False)
         check("a key is made", keys.opens(keys.new("xaver-1")), True)
-        status, said = edit("sed -i '$a # edited'", "--log", keys.site.errors)
-        check("an edit goes on", (status, "# edited" in keys.text()), (0, True))
         check("the end of the hour's keys, too", keys("expire")[:2], (0, "no key to end\n"))
     finally:
         for it in holders:
             end(it)
-    put(config, keys.text().replace("# edited\n", ""))
     check("and a key ends", keys("revoke", "xaver-1"), ENDED)
     check("nothing is left", keys.left(), [])
 
@@ -558,26 +464,6 @@ def false_servers(keys):
         check("the key ends", keys("revoke", f"of-{name}"), ENDED)
 
 
-def failed_editor(keys, edit, folder):
-    """An editor that is killed while it writes: what it wrote may be right, and lack keys."""
-    stays, last, before = keys.new("udo-1"), keys.new("vera-1"), keys.text()
-    editor = f"{folder}/killed-editor"
-    text = before[: before.rindex("# radacctd-key: made")]
-    put(f"{folder}/cut", text)
-    put(editor, f'#!/bin/sh\ncat {folder}/cut >"$1"\nkill -9 $$\n')
-    os.chmod(editor, 0o755)
-    status, said = edit(editor, "--log", keys.site.errors)
-    check("of an editor that fails nothing is written", (status, keys.text() == before), (1, True))
-    check("and it is said", "the editor ended with status 137" in said, True)
-    check("the copy stays", text_of(keys.config + ".edit"), text)
-    os.remove(keys.config + ".edit")
-    os.remove(keys.config + ".edit-base")
-    check("both keys are known", [keys.opens(it) for it in (stays, last)], [True, True])
-    for name in ("udo-1", "vera-1"):
-        keys("revoke", name)
-    check("nothing is left", keys.left(), [])
-
-
 def until(holds, seconds=60):
     end = time.monotonic() + seconds
     while not holds() and time.monotonic() < end:
@@ -585,10 +471,9 @@ def until(holds, seconds=60):
     return holds()
 
 
-def test(site, edit, folder):
+def test(site):
     """All rows over a site whose server runs."""
     keys = Keys(site)
-    left_copy(keys)
     waiting_plan(keys)
     many_at_once(keys)
     mixed_at_once(keys, 5)
@@ -597,10 +482,7 @@ def test(site, edit, folder):
     same_octets(keys)
     killed(keys)
     full_disk(keys)
-    foreign_locks(keys, edit)
+    foreign_locks(keys)
     closed_locks(keys)
     stopped_check(keys)
     false_servers(keys)
-    failed_editor(keys, edit, folder)
-    open_editor(keys, edit, folder)
-    edit_with_plan(keys, edit, folder)

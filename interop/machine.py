@@ -27,6 +27,7 @@ PACKAGES = ["systemd", "systemd-sysv", "dbus", "python3", "procps", "sensible-ut
 SITE = ["apache2-utils", "curl", "fcgiwrap", "freeradius", "freeradius-utils", "iproute2", "nginx"]
 SITE += ["fonts-dejavu-core", "openssh-client", "openssh-server", "python3-reportlab", "qrencode"]
 SITE += ["rsync", "sqlite3"]
+SITE += ["gunicorn", "libjs-bootstrap5", "python3-bottle", "python3-jinja2", "python3-segno"]
 CACHE = os.environ.get("RADACCTD_ROOTS", "/var/tmp/radacctd-interop")
 TOOLS = {
     "systemd-nspawn": "systemd-container",

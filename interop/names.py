@@ -9,7 +9,6 @@ from served import PROGRAM, ROOT, check
 sys.path.append(os.path.join(ROOT, "etc"))
 
 from radacctl import names
-from radacctl import shards as books
 from radacctl.commands import sell
 
 # As a file of vouchers spells them: % and two digits are one octet.
@@ -83,22 +82,20 @@ def test_rule():
         check(f"{spelled} comes back as exports spell it", found, octets)
 
 
-def test_parts():
-    """A file for 16 books: a field with a formula's apostrophe goes to the book of its name."""
+def test_apostrophes():
+    """A field with a formula's apostrophe is of the name without it."""
     rows = "".join(f"V-{at},'={at},5\n" for at in range(40))
-    vouchers, refused, *_ = sell.read(f"voucher,account,sum\n{rows}".encode(), frozenset())
-    parts, _ = sell.parts_of(vouchers, books.shard_of, refused)
-    wanted = {it: books.shard_of(it) for it in (b"=%d" % at for at in range(40))}
-    found = {it.account: shard for shard, part in parts.items() for it in part}
-    check("of 16 books a formula's apostrophe is none of the name's", found, wanted)
+    vouchers, *_ = sell.read(f"voucher,account,sum\n{rows}".encode(), frozenset())
+    found = [it.account for it in vouchers]
+    check("a formula's apostrophe is none of the name's", found, [b"=%d" % at for at in range(40)])
 
 
 def test_found(prefix):
     """The tools find the module where bin/install puts it, and leave nothing next to it."""
     folder = os.path.join(prefix, "libexec", "radacctd")
-    tool = os.path.join(prefix, "sbin", "radacctd-sell")
+    tool = os.path.join(prefix, "sbin", "radacctl")
     text = b"voucher,account,sum\nV-1,'anton,5\n"
-    done = subprocess.run([tool, "--dry-run"], input=text, capture_output=True, cwd="/")
+    done = subprocess.run([tool, "sell", "--dry-run"], input=text, capture_output=True, cwd="/")
     said = "record 2: the account `'anton` may not enter: it begins with an apostrophe"
     found = done.returncode, said in done.stderr.decode(), "__pycache__" in os.listdir(folder)
     check("an installed tool has the rule of names", found, (1, True, False))

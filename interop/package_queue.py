@@ -86,8 +86,8 @@ def upgraded(box):
 
 def removed(box):
     """apt removes nothing that others read, until one has done what it says."""
-    others = ("freeradius", "nginx", "fail2ban")
-    for who in ("FreeRADIUS has", "nginx and fail2ban have"):
+    others = ("freeradius", "nginx")
+    for who in ("FreeRADIUS has", "nginx has"):
         status, said = box.run("apt-get remove -y radacctd")
         check(f"while {who} its files, apt removes nothing",
               (status != 0, f"{who} files of this package" in said), (True, True))

@@ -13,7 +13,7 @@ from front import FILES, check
 
 sys.path.insert(0, os.path.join(front.ROOT, "etc"))
 from radacctl import logins, packages
-from radacctl.money import Money
+from radacctd_site.core.money import Money
 from radacctl.setup import packages as steps
 
 PACKAGES = os.path.join(front.ROOT, "etc", "packages")

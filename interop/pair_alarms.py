@@ -2,7 +2,6 @@
 login while one radacctd is down, a file of vouchers, and nginx before the outbox.
 """
 
-import json
 import os
 import shutil
 import subprocess
@@ -11,6 +10,7 @@ import time
 import pair_machines
 from front import KILL, MEBIBYTE, check, report, waits_for
 from pair_machines import PAIR, TOOLS
+from redeeming import live
 
 # How long a comparison may take until it reports, in seconds.
 PATIENCE = 90
@@ -76,7 +76,7 @@ def sold_twice(test, first, second):
 
 
 def by_a_file(test, first, second):
-    """radacctd-sell by the outbox while the other desk is down."""
+    """radacctl sell by the outbox while the other desk is down."""
     second.book.kill()
     lines = [f"F-{number},user{number % 5},10" for number in range(40)]
     words = [os.path.join(TOOLS, "radacctl"), "sell", "--port", str(first.outbox_port)]
@@ -84,7 +84,7 @@ def by_a_file(test, first, second):
     text = "\n".join(["voucher,account,sum", *lines]) + "\n"
     done = subprocess.run(words, input=text, capture_output=True, text=True)
     wanted = (0, "added 40, repeated 0, refused 0\n")
-    check("radacctd-sell sells while one desk is down", (done.returncode, done.stdout), wanted)
+    check("radacctl sell sells while one desk is down", (done.returncode, done.stdout), wanted)
     listed = first.outbox_command("--list").stdout
     check("the vouchers wait", listed.count("own taken, other new"), 40)
     first.outbox.kill()
@@ -98,19 +98,18 @@ def by_a_file(test, first, second):
 
 def by_a_code(test, first):
     """A printed voucher, redeemed by the outbox."""
-    letters = "ACDEFHJKMNPQRTUWXY34679"
-    body = letters[:14]
-    weight = sum(at * letters.index(it) for at, it in enumerate(body, 1))
-    code = body + letters[weight % len(letters)]
-    stock = os.path.join(test.folder, "stock.csv")
-    with open(stock, "w", encoding="ascii") as file:
-        file.write(f"code,sum,sheet\n{code[:5]}-{code[5:10]}-{code[10:]},30,one\n")
-    text = json.dumps({"account": "user6", "code": code})
-    given = {"CONTENT_LENGTH": str(len(text)), "RADACCTD_STOCK": stock, "RADACCTD_KEY": first.key}
-    given["RADACCTD_DESKS"] = f"127.0.0.1:{first.outbox_port}"
-    words = [os.path.join(TOOLS, "radacctl"), "redeem"]
-    done = subprocess.run(words, input=text, capture_output=True, text=True, env=os.environ | given)
-    check("a printed voucher", done.stdout.rpartition("\n\n")[2], '{"result":"new","sum":30}')
+    with open(first.key, encoding="ascii") as file:
+        service = live.Service(os.path.join(test.folder, "site"), first.outbox_port,
+                               file.readline().strip(), decimals=0)
+    service.start()
+    try:
+        service.run("voucher", "make", "1", "30")
+        name = service.run("voucher", "list")[1].partition(":")[0]
+        code = service.run("voucher", "list", name)[1].splitlines()[1].partition(",")[0]
+        status = service.browser().post("/redeem/", account="user6", code=code, sure="yes")
+        check("a printed voucher", status, 200)
+    finally:
+        service.kill()
     all_well(test, "both books get it")
 
 
@@ -204,7 +203,7 @@ def through_nginx(test, first, second):
         ("/var/lib/radacctd-pair/balances.csv", kept),
     ]
     site = Site(os.path.join(test.folder, "nginx"), KILL.CASHIER, changes)
-    site.settings({})
+    site.settings()
     try:
         site.start()
         front_desk_sells(site, first, second)

@@ -221,7 +221,7 @@ class Machine:
             caller.close()
 
     def debit(self, account, total, number, journal):
-        """The status of radacctd-debit, which reports to FreeRADIUS."""
+        """The status of radacctl debit, which reports to FreeRADIUS."""
         words = [os.path.join(TOOLS, "radacctl"), "debit", "--config", self.book.config]
         words += ["--db", self.book.book, "--secret-file", self.secret, "--journal", journal]
         words += ["--port", str(self.radius.acct)]

@@ -179,7 +179,7 @@ def report(it, session, account, octets, plan="gold", more=(), server="127.0.0.1
 
 def sell(it, records):
     text = "\\n".join(["voucher,account,sum", *records])
-    return it.run(f"printf '{text}\\n' | radacctd-sell 2>/dev/null")[1].strip()
+    return it.run(f"printf '{text}\\n' | radacctl sell 2>/dev/null")[1].strip()
 
 
 def balances(it):
@@ -221,7 +221,7 @@ def lives(first, second):
         it.must("systemctl restart freeradius")
         it.must("install -m 600 /dev/null /etc/radacctd-books.secret")
         it.must("echo books-secret > /etc/radacctd-books.secret")
-    done = first.run("radacctd-debit al 70 VOID-1")
+    done = first.run("radacctl debit al 70 VOID-1")
     check("a debit", done, (0, "VOID-1: 70 taken from al\n"))
     both_have(machines, "the debit", {"al": 400})
     second.must("systemctl kill -s KILL radacctd; systemctl stop radacctd freeradius")
@@ -411,7 +411,7 @@ def differ(first, second):
     text = section(PAGE, "Alarms")
     commands = steps(text[text.index("### If balances differ") : text.index("### If one book")])
     lacks = "printf 'voucher,account,sum\\nONE-1,eve,50\\n'"
-    straight = "radacctd-sell --port 8066 --host"
+    straight = "radacctl sell --port 8066 --host"
     said = first.run(f"{lacks} | {straight} {ADDRESSES[0]} 2>/dev/null")[1].strip()
     check("a voucher is sold straight at one desk", said, ADDED)
     for it, line in ((first, "account eve: 50 here, 0 there"), (second, "account eve: 0 here, 50")):
@@ -438,10 +438,10 @@ def refused(first, second):
     commands = steps(text[text.index("### If one book refuses") :])
     at = lambda address, line: first.run(
         f"printf 'voucher,account,sum\\n{line}\\n' | "
-        f"radacctd-sell --port 8066 --host {address} 2>/dev/null"
+        f"radacctl sell --port 8066 --host {address} 2>/dev/null"
     )[1].strip()
     check("X-1 is sold to gus straight at one desk", at(ADDRESSES[0], "X-1,gus,5"), ADDED)
-    second.run("printf 'voucher,account,sum\\nX-1,hal,7\\n' | radacctd-sell --give-up 1")
+    second.run("printf 'voucher,account,sum\\nX-1,hal,7\\n' | radacctl sell --give-up 1")
     for it in (first, second):
         journal_has(it, "voucher X-1: one book took it and one refuses it")
     listed = second.run(commands[1])[1]

@@ -119,10 +119,8 @@ class Guests(Worker):
         number = "W-" + code
         sale = self.model.sales[number] = Sale(number, people[0], total, (0, 1))
         sale.asked.update(people)
-        desks = self.site.desks() if rng.random() < 0.5 else (self.site.outbox.port,)
         asking = [
-            threading.Thread(target=self.redeem, args=(sale, it, desks, rng.random()))
-            for it in people
+            threading.Thread(target=self.redeem, args=(sale, it, rng.random())) for it in people
         ]
         asking[0].start()
         time.sleep(rng.choice([0, rng.uniform(0, 1)]))
@@ -131,15 +129,14 @@ class Guests(Worker):
             it.join()
         asking[0].join()
 
-    def redeem(self, sale, account, desks, chance):
+    def redeem(self, sale, account, chance):
         """A guest, who asks until there is an answer, and is tired at times."""
-        body = json.dumps({"account": shown(account), "code": sale.number[2:].lower()}).encode()
         while True:
             self.tries += 1
             chance = chance * 997 % 1
             after = SHORTEST + chance * (LONGEST - SHORTEST) if chance < 0.45 else None
-            status, said = self.site.codes.redeem(body, desks, after)
-            sale.said.append((time.monotonic(), account, desks, status, said))
+            status = self.site.codes.redeem(shown(account), sale.number[2:].lower(), after)
+            sale.said.append((time.monotonic(), account, status))
             if status == 200:
                 sale.answered.add(account)
             if status not in (0, 503) or chance * 31 % 1 < TIRED:

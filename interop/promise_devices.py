@@ -183,12 +183,10 @@ def extended(rng):
     return [(kind, bytes([rng.randrange(200, 240)]) + rng.randbytes(rng.randrange(1, 12)))]
 
 
-def wrong(rng, plan):
-    """Attributes of a wrong form, which nobody can charge: no gigawords by a plan of seconds."""
-    forms = [[(42, b"\1\2")], [(43, b"\1\2\3")]]
-    if plan != b"hour":
-        forms += [[(52, number(1 << 30))], [(53, number(1 << 31))]]
-    return rng.choice(forms)
+def wrong(rng):
+    """Attributes of a wrong form, which nobody can charge."""
+    return rng.choice([[(42, b"\1\2")], [(43, b"\1\2\3")], [(52, number(1 << 30))],
+                       [(53, number(1 << 31))]])
 
 
 class Devices(threading.Thread):
@@ -300,7 +298,7 @@ class Devices(threading.Thread):
         if chance < NO_NAME and not is_old:
             session.kind, session.account = NAMELESS, rng.choice(BAD_NAMES)
         elif chance < NO_NAME + WRONG_FORM and not is_old:
-            session.kind, session.form = WRONG, wrong(rng, plan)
+            session.kind, session.form = WRONG, wrong(rng)
         session.is_old, session.gives_up = is_old, rng.random() < GIVES_UP
         self.model.sessions.append(session)
         if not is_old:
@@ -368,7 +366,7 @@ class Devices(threading.Thread):
         for _ in range(count):
             session = self.new_session(True)
             session.is_old = is_old
-            session.plan = self.rng.choice([b"gold", b"down", b"default", b"hour"])
+            session.plan = self.rng.choice([b"gold", b"down", b"default"])
             octets = self.rng.randrange(9 << 20), self.rng.randrange(9 << 20)
             moment = time.time() - self.rng.randrange(youngest, oldest)
             session.reports.append(
@@ -378,7 +376,7 @@ class Devices(threading.Thread):
             self.old.append(session)
 
 
-PLANS_SENT = [b"gold", b"gold", b"up", b"down", b"hour", b"free", b"default", b"unknown", b""]
+PLANS_SENT = [b"gold", b"gold", b"up", b"down", b"free", b"default", b"unknown", b""]
 
 
 def logs_in(port, name, source):

@@ -13,14 +13,13 @@ import io
 import re
 import urllib.parse
 
-BOTH, IN, OUT, SECONDS = "both", "in", "out", "seconds"
+BOTH, IN, OUT = "both", "in", "out"
 MEBIBYTE = 1 << 20
-# Of each Class: block, unit and what is counted. `hour` is one of seconds.
+# Of each Class: block, unit and what is counted.
 PLANS = {
     b"gold": (MEBIBYTE, 10, BOTH),
     b"up": (MEBIBYTE, 7, IN),
     b"down": (65_536, 3, OUT),
-    b"hour": (60, 1, SECONDS),
     b"free": (MEBIBYTE, 0, BOTH),
     b"default": (1_000_000, 5, BOTH),
 }
@@ -47,8 +46,6 @@ class Report:
 
     def numbers(self):
         """Octets from and to the user, as the book is to have them."""
-        if self.session.mode() == SECONDS:
-            return self.seconds, 0
         return self.input, self.output
 
     def is_left_out(self):
@@ -57,7 +54,7 @@ class Report:
 
     def counted(self):
         one, other = self.numbers()
-        return {BOTH: one + other, IN: one, OUT: other, SECONDS: one}[self.session.mode()]
+        return {BOTH: one + other, IN: one, OUT: other}[self.session.mode()]
 
     def history(self, began):
         sent = ", ".join(f"{at - began:.1f} (delay {delay})" for at, delay in self.sent)

@@ -4,13 +4,11 @@ FreeRADIUS and its book have clocks that the test sets.
 """
 
 import contextlib
-import csv
 import ctypes
 import glob
 import http.client
 import json
 import os
-import re
 import signal
 import socket
 import subprocess
@@ -20,7 +18,8 @@ import time
 import front
 from front import KILL, ROOT
 from promise_disk import Small
-from promise_model import PLANS, SECONDS
+from promise_model import PLANS
+from redeeming import live
 
 TOOLS = os.path.join(ROOT, "etc", "tools")
 OUTBOX = os.path.join(ROOT, "etc", "pair", "radacctd-outbox")
@@ -127,8 +126,7 @@ class Book(Killed, front.Book):
         name, address = front.FRONT
         client = f'name = "{name}"\naddress = "{address}"\nsecret = "{front.BOOK_SECRET}"\n'
         text = f"[[client]]\n{client}"
-        for plan, (block, unit, mode) in PLANS.items():
-            count = "in" if mode == SECONDS else mode
+        for plan, (block, unit, count) in PLANS.items():
             text += f'[[plan]]\nclass = "{plan.decode()}"\nblock = {block}\nunit = {unit}\n'
             text += f'count = "{count}"\n'
         return text + f'[[key]]\ntoken = "{CASHIER}"\ncashier = true\n'
@@ -290,62 +288,49 @@ class Outbox(Killed):
             return None
 
 
-class Codes:
-    """Printed codes, and the program that redeems one."""
+# Redeems a code, and prints the status of the page for what became of it.
+REDEEM = """
+import sys
+from radacctd_site.core import places, store
+from radacctd_site.vouchers import vouchers
+with store.opened() as db:
+    said, _ = vouchers.redeem(db, places.book(), *sys.argv[1:])
+print({"new": 200, "repeat": 200, "differs": 409, "no such code": 404}.get(said, 503))
+"""
 
-    def __init__(self, folder, key):
-        self.folder, self.key, self.kills, self.runs = os.path.join(folder, "codes"), key, 0, 0
-        self.second = os.path.join(folder, "withdrawn", "withdrawn.csv")
-        self.settings = os.path.join(folder, "settings.json")
-        os.makedirs(self.folder)
-        os.makedirs(os.path.dirname(self.second))
-        self.stock = os.path.join(self.folder, "stock.csv")
-        with open(self.settings, "w", encoding="utf-8") as file:
-            json.dump({"name": "Hotel", "currency": "EUR", "decimals": 2, "url": URL}, file)
+
+class Codes:
+    """Printed codes, and a process that redeems one, as a worker of the pages' service does."""
+
+    def __init__(self, folder, key, port):
+        with open(key, encoding="ascii") as file:
+            token = file.readline().strip()
+        self.service = live.Service(os.path.join(folder, "codes"), port, token)
+        self.kills = self.runs = 0
 
     def print(self, count, total):
         """So many codes of a sum in units of the book, which it returns."""
-        before = set(self.codes())
-        words = [os.path.join(TOOLS, "radacctl"), "voucher", "--stock", self.stock, "--yes"]
-        words += ["--second", self.second, "--settings", self.settings, "--to", self.folder]
-        words += ["--count", str(count), "--sum", f"{total // 100}.{total % 100:02d}"]
-        done = subprocess.run(words, capture_output=True, text=True, stdin=subprocess.DEVNULL)
-        if done.returncode:
-            raise SystemExit(done.stderr)
-        for path in glob.glob(os.path.join(self.folder, "vouchers-*")):
-            os.remove(path)
-        return sorted(set(self.codes()) - before)
+        status, said = self.service.run("voucher", "make", str(count), "--yes",
+                                        f"{total // 100}.{total % 100:02d}")
+        if status:
+            raise SystemExit(said)
+        name = said.strip().rpartition("/")[2]
+        rows = self.service.run("voucher", "list", name)[1].splitlines()[1:]
+        return [it.partition(",")[0] for it in rows]
 
-    def codes(self):
-        if not os.path.exists(self.stock):
-            return []
-        with open(self.stock, encoding="ascii", newline="") as file:
-            return [row["code"] for row in csv.DictReader(file)]
-
-    def redeem(self, body, desks, kill_after=None):
-        """The status and the object that it answers, or none if it was killed before."""
-        own = {
-            "CONTENT_LENGTH": str(len(body)),
-            "REQUEST_METHOD": "POST",
-            "RADACCTD_STOCK": self.stock,
-            "RADACCTD_WITHDRAWN": self.second,
-            "RADACCTD_KEY": self.key,
-            "RADACCTD_DESKS": ",".join(f"127.0.0.1:{port}" for port in desks),
-        }
-        pipe = subprocess.PIPE
-        words = [os.path.join(TOOLS, "radacctl"), "redeem"]
-        process = subprocess.Popen(
-            words, stdin=pipe, stdout=pipe, stderr=subprocess.DEVNULL, env={**os.environ, **own}
-        )
+    def redeem(self, account, code, kill_after=None):
+        """The status of the answer, or 0 if it was killed before."""
+        words = ["/usr/bin/python3", "-c", REDEEM, account, code]
+        process = subprocess.Popen(words, stdout=subprocess.PIPE, stderr=subprocess.DEVNULL,
+                                   env=self.service.env)
         self.runs += 1
         try:
-            said, _ = process.communicate(body, kill_after)
+            said, _ = process.communicate(timeout=kill_after)
         except subprocess.TimeoutExpired:
             process.kill()
             said, _ = process.communicate()
             self.kills += 1
-        found = re.match(rb"Status: (\d+)\r\n.*?\r\n\r\n(.*)", said, re.DOTALL)
-        return (int(found[1]), json.loads(found[2])) if found else (0, {})
+        return int(said or 0)
 
 
 class Site:
@@ -356,10 +341,10 @@ class Site:
         self.clocks = {it: Clock(folder, it) for it in ("front", "book", "other")}
         self.book = Book(os.path.join(folder, "a"), self.clocks["book"])
         self.other = Book(os.path.join(folder, "b"), self.clocks["other"])
-        settings = [("oldest_report", "0"), ("time_classes", '"^hour$"')]
+        settings = [("oldest_report", "0")]
         self.radius = FreeRadius(folder, self.book, self.clocks["front"], settings)
         self.outbox = Outbox(folder, self.desks())
-        self.codes = Codes(folder, self.outbox.keys)
+        self.codes = Codes(folder, self.outbox.keys, self.outbox.port)
 
     def desks(self):
         return self.book.desk, self.other.desk

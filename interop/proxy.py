@@ -43,7 +43,7 @@ class Proxy:
         shutil.copytree(os.path.join(ROOT, "etc", "nginx"), folder)
         for name in ("log", "temp", "site"):
             os.mkdir(os.path.join(folder, name))
-        self.socket, self.clerk = (os.path.join(folder, f"{it}.socket") for it in ("redeem", "clerk"))
+        self.socket, self.clerk = (os.path.join(folder, f"{it}.socket") for it in ("site", "clerk"))
         self.changes = [
             *changes,
             ("listen 443 ssl", f"listen 127.0.0.1:{self.port} ssl"),
@@ -51,19 +51,13 @@ class Proxy:
             ("/etc/ssl/radacctd.pem", f"{folder}/site/cert.pem"),
             ("/etc/ssl/private/radacctd.key", f"{folder}/site/cert.key"),
             ("/usr/local/share/radacctd/web", web_pages.folder()),
-            ("/usr/local/sbin/radacctd-redeem", os.path.join(folder, "redeem")),
-            ("/run/radacctd-redeem.socket", self.socket),
+            ("/run/radacctd-site.socket", self.socket),
             ("/usr/local/libexec/radacctd/clerk-page", os.path.join(folder, "clerk")),
             ("/run/radacctd-clerk.socket", self.clerk),
             ("/var/log/nginx", self.logs),
             ("/etc/radacctd-web", f"{folder}/site"),
             ("/etc/nginx/radacctd", f"{folder}/radacctd"),
         ]
-        # As docs/SHARDS.md has each site print its own.
-        tool, table = (os.path.join(ROOT, "etc", *it) for it in (
-            ("tools", "radacctl"), ("shards", "shards.csv")))
-        with open(f"{folder}/radacctd/desks-shards.conf", "wb") as file:
-            subprocess.run([tool, "shards", "--table", table, "nginx"], stdout=file, check=True)
         self.write()
 
     def write(self):
@@ -103,14 +97,10 @@ class Proxy:
             file.write(text)
         os.chmod(f"{parts}/cashier.conf", 0o600)
 
-    def settings(self, plans=None, **values):
-        files = {"settings.json": {"name": "Hotel Example", "currency": "EUR", "decimals": 2}}
-        files["settings.json"].update(values)
-        if plans is not None:
-            files["plans.json"] = plans
-        for name, value in files.items():
-            with open(f"{self.folder}/site/{name}", "w", encoding="utf-8") as file:
-                json.dump(value, file)
+    def settings(self, **values):
+        found = {"name": "Hotel Example", "currency": "EUR", "decimals": 2, **values}
+        with open(f"{self.folder}/site/settings.json", "w", encoding="utf-8") as file:
+            json.dump(found, file)
 
     def words(self, *more):
         return ["nginx", "-e", f"{self.logs}/start.log", "-c", f"{self.folder}/nginx.conf", *more]
@@ -156,6 +146,11 @@ class Proxy:
 
     def status(self, path, *more, **how):
         return self.curl(path, *more, **how)[0]
+
+    def guest(self, key, **how):
+        """The status and the text of the guests' page for the key of a card."""
+        status, _, text = self.curl("/", "-H", f"Cookie: __Host-guest={key}", **how)
+        return status, text
 
     def many(self, count, path, *more, origin):
         """The statuses of a request that one curl sends so often, from an address."""

@@ -39,7 +39,7 @@ ODD = [*NAMES[:28], b"0x616c", b"0xzz", b"0x4", b"0x", b"1234567890", b"12345678
 PLAIN = [b"al", b"bo", b"Al", b"room 12", "müller".encode(), b"t-0123456789ab"]
 IDS = [b"s1", b"s2", b"8100", b"00000001", b"al", b"0001:0002", b":1", b"a:", b"5E3A9C00/11",
        b"x" * 150, b"x" * 151, b"x" * 252 + b"y", b"x" * 253, b"\0" * 252 + b"y", b"\0" * 253]
-CLASSES = [b"gold", b"silver", b"hour", b"free", b"up", b"default", "größe".encode(), b"GOLD",
+CLASSES = [b"gold", b"silver", b"free", b"up", b"default", "größe".encode(), b"GOLD",
            b"brass", b"ai:0011223344", b"\x00\xff\x01", b"OU=sales", b"0x676f6c64", b"x" * 253,
            b"gold\\", b"g;old", b"gold;", b"a'b", b"%{User-Name}", b"hour2"]
 LENGTHS = [1, 2, 3, 5, 6, 8, 16, 253]
@@ -104,7 +104,7 @@ def choices(rng, kind):
         "is_old": rng.random() < 0.5, "last_quota": rng.choice([500, 100, 7]),
     }
     kinds = [{"is_old": False}, {"names_device": True, "is_old": True, "if_old": "last"},
-             {"shards": True}, {"pair": True, "is_old": False}, {"proxied": "yes"}]
+             {"pair": True, "is_old": False}, {"proxied": "yes"}]
     return Choices(**{**found, **kinds[kind % len(kinds)]})
 
 
@@ -124,7 +124,7 @@ class Life:
         if kind < 0.15:
             return []
         login = b"%032x" % rng.getrandbits(128) if self.client.stamp == "login" else b""
-        plan = rng.choice([b"gold", b"gold", b"hour", b"free", b"default", b"brass", b"up"])
+        plan = rng.choice([b"gold", b"gold", b"free", b"default", b"brass", b"up"])
         stamp = b"%s;radacctd;%s;%s;" % (plan, login, quoted(self.sold()))
         if len(stamp) > 253 or kind < 0.45:
             return [rng.choice(CLASSES)]

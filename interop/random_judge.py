@@ -7,6 +7,7 @@ import os
 import re
 import socket
 import time
+import types
 
 import front
 import random_model as model
@@ -28,15 +29,16 @@ PROXIED = (b"both.example", b".pattern.example")
 
 
 def module_of(name):
-    """A program of etc/freeradius, as a module."""
-    loader = importlib.machinery.SourceFileLoader(name, os.path.join(front.FILES, name))
+    """A program of this folder, as a module."""
+    loader = importlib.machinery.SourceFileLoader(name, os.path.join(front.FOLDER, name))
     found = importlib.util.module_from_spec(importlib.util.spec_from_loader(name, loader))
     loader.exec_module(found)
     return found
 
 
-KEPT = module_of("kept-sessions")
-BOOK_OF = module_of("balances-mirror").book_of
+# How a session is spelled behind FreeRADIUS.
+SPELLED = module_of("from-radacct").Reader.identifier
+BEHIND = types.SimpleNamespace(behind="freeradius")
 
 
 class Queue:
@@ -102,13 +104,13 @@ class Ids:
 
 
 def are_one(one, other):
-    """Whether FreeRADIUS takes the names of two sessions for one, as kept-sessions says why. Of a
+    """Whether FreeRADIUS takes the names of two sessions for one, as from-radacct says why. Of a
     device's name it reads what is before an octet of 0, and what it makes of a backslash nobody says.
     """
     devices = [(it[3] or b"").partition(b"\0")[0] for it in (one, other)]
     if b"\\" in b"".join(devices):
         return True
-    spelled = [KEPT.key_of(it[0], it[1] or b"", it[2]) for it in (one, other)]
+    spelled = [SPELLED(BEHIND, it[0], it[1] or b"", it[2]) for it in (one, other)]
     return spelled[0] == spelled[1] and one[4] == other[4] and devices[0] == devices[1]
 
 
@@ -154,14 +156,10 @@ class Judge:
         if delay != (wanted.record.get("Acct-Delay-Time") or 0):
             yield f"its delay is {delay}"
         if wanted.key[1] is not None:
-            is_queued = wanted.what == QUEUED and not self.site.choices.shards
-            yield from self.ids.faults(wanted.key, found, where if is_queued else None)
+            yield from self.ids.faults(wanted.key, found, where if wanted.what == QUEUED else None)
         if wanted.what == QUEUED:
-            yield from self.places(wanted, where)
+            yield from self.places(where)
         mine = dict(wanted.record)
-        if self.site.choices.shards:
-            found = record.get("Tmp-String-8", b"").decode("latin-1")
-            mine["Tmp-String-8"] = book_of(wanted.payer, found).encode()
         own = {name for name in record if name.startswith("Attr-")}
         wrong = {(int(it.removeprefix("Attr-")), record.pop(it)) for it in own}
         if bool(wrong) != bool(wanted.wrong) or not wrong <= set(wanted.wrong):
@@ -170,13 +168,9 @@ class Judge:
             if record.get(name) != mine.get(name):
                 yield f"{name} is {record.get(name)!r}, and must be {mine.get(name)!r}"
 
-    def places(self, wanted, where):
-        """Whether a report is with a reader that there is, or with its book."""
-        choices = self.site.choices
-        if choices.shards:
-            if where != book_of(wanted.payer, where):
-                yield f"it is queued for {where}"
-        elif where not in [f"reader-{it}" for it in range(choices.readers)]:
+    def places(self, where):
+        """Whether a report is with a reader that there is."""
+        if where not in [f"reader-{it}" for it in range(self.site.choices.readers)]:
             yield f"it is in {where}"
 
     def seen(self, report, wanted, reply):
@@ -229,11 +223,6 @@ def is_elsewhere(report, is_answered):
     """
     is_lost = not is_answered and any(kind > 240 for kind, _ in report.attributes)
     return is_proxied(report) and (is_answered or is_lost)
-
-
-def book_of(payer, found):
-    """The book of an account of 16. A name with an octet of 0 nobody sells to: any book is right."""
-    return found if b"\0" in (payer or b"") else BOOK_OF(payer or b"")
 
 
 def plain(records):

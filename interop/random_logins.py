@@ -11,7 +11,7 @@ import random_draw as draw
 import random_model as model
 from access_dictionary import Dictionary
 from front_sender import attribute
-from random_model import CLASS, NAME, PLANS, SECONDS, SERVICE, SESSION, VENDOR
+from random_model import CLASS, NAME, PLANS, SERVICE, SESSION, VENDOR
 from random_site import Asker, Site
 
 EACH, MOST, SHOWN = 500, 2000, 5
@@ -20,7 +20,7 @@ PLAN, MESSAGE, TIMEOUT = 87, 18, 27
 HIS_NAME, HIS_CLASS = 34, 35
 NAMES_AWAY = [b"al", b"real@AWAY.example", b"x@both.example", b"1234567890", b"al@campus.example",
               b"bo@a.pattern.example", b"nick@away.example"]
-CLASSES_AWAY = [b"gold", b"home", b"gold;radacctd;;al;", b"hour", b"x" * 200 + b";radacctd;;bo;"]
+CLASSES_AWAY = [b"gold", b"home", b"gold;radacctd;;al;", b"free", b"x" * 200 + b";radacctd;;bo;"]
 ACCEPT = 2
 SPENT, NOBODY = b"Your allowance is spent.", b"This name cannot be charged."
 WAIT = b"Please try again in some minutes."
@@ -37,7 +37,7 @@ QUOTAS = {
     ("chillispot", "out"): ("ChilliSpot-Max-Output-Octets",),
     ("pfsense", "both"): ("pfSense-Max-Total-Octets",),
 }
-LAST_SECONDS, LARGEST, LONGEST = 900, (1 << 32) - 1, (1 << 31) - 1
+LAST_SECONDS, LARGEST = 900, (1 << 32) - 1
 
 
 class Login:
@@ -132,8 +132,6 @@ def visited(name, its_name, its_class):
 
 def told(octets, plan, client, choices):
     """The attributes of a quota."""
-    if plan in SECONDS:
-        return {TIMEOUT: min(octets, LONGEST)}
     names = QUOTAS.get((client.quota, PLANS[plan][2]), ())
     if len(names) == 2:
         octets -= octets & LARGEST == 0

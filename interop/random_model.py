@@ -19,14 +19,13 @@ NUMBERS |= {42: "Acct-Input-Octets", 52: "Acct-Input-Gigawords"}
 NUMBERS |= {43: "Acct-Output-Octets", 53: "Acct-Output-Gigawords"}
 ADDRESSES = {8: "Framed-IP-Address", 4: "NAS-IP-Address"}
 TEXTS = {STATION: "Calling-Station-Id", DEVICE: "NAS-Identifier"}
-# Of each Class: block, unit and what is counted. `hour` is one of seconds.
+# Of each Class: block, unit and what is counted.
 PLANS = {
     b"gold": (1 << 20, 10, "both"), b"silver": (1 << 20, 20, "both"), b"up": (1 << 20, 3, "in"),
-    b"down": (65_536, 4, "out"), b"hour": (60, 1, "in"), b"free": (1 << 20, 0, "both"),
+    b"down": (65_536, 4, "out"), b"free": (1 << 20, 0, "both"),
     b"huge": (1 << 53, 1, "both"), "größe".encode(): (1 << 20, 5, "both"),
     b"default": (1_000_000, 5, "both"),
 }
-SECONDS = {b"hour"}
 MOST_ATTRIBUTES = 200
 DAY = 86_400
 # Service-Type of who manages a device: RFC 2865, 5.6.
@@ -67,7 +66,7 @@ class Client:
 
 @dataclasses.dataclass(frozen=True)
 class Choices:
-    """What a site chose in settings.conf, and whether it is one of two machines or of 16 books."""
+    """What a site chose in settings.conf, and whether it is one of two machines."""
 
     realms: str = ""
     proxied: str = "no"
@@ -78,7 +77,6 @@ class Choices:
     left_out: str = ""
     names_device: bool = False
     pair: bool = False
-    shards: bool = False
     # Of logins.
     plan: str = "default"
     share: int = 1
@@ -198,13 +196,9 @@ class Reading:
         if realm_of(name) == STRIPPED and self.client.name != "books":
             self.name = name.rpartition(b"@")[0]
 
-    def is_paid_by_seconds(self):
-        return self.plan in SECONDS
-
     def moves_money(self):
-        """Whether the report has octets, or seconds if those are paid."""
-        kinds = [*MOVES_MONEY, *([TIME] if self.is_paid_by_seconds() else [])]
-        return any(self.said.number(it) for it in kinds)
+        """Whether the report has octets."""
+        return any(self.said.number(it) for it in MOVES_MONEY)
 
 
 def why_left_alone(reading):
@@ -248,14 +242,11 @@ def outcome(attributes, client, choices, remembered):
 def judged(reading, status):
     """What becomes of a Start, a Stop or an Interim-Update of a session that is sold."""
     said, choices = reading.said, reading.choices
-    wrong = said.wrong(MOVES_MONEY | ({TIME} if reading.is_paid_by_seconds() else set()))
-    no_seconds = (status == STOP and reading.is_paid_by_seconds()
-                  and said.number(TIME) is None)
+    wrong = said.wrong(MOVES_MONEY)
     if not reading.name or said.text(SESSION) is None:
         if wrong:
             return Outcome(FILED, "nobody, wrong length", wrong=wrong)
-        is_money = reading.moves_money() or no_seconds
-        return Outcome(FILED if is_money else NOWHERE, "nobody")
+        return Outcome(FILED if reading.moves_money() else NOWHERE, "nobody")
     if reading.client.services == "no" and said.is_service():
         return Outcome(NOWHERE, "service")
     if wrong:
@@ -263,11 +254,7 @@ def judged(reading, status):
     if (status == START and reading.plan is None and choices.hold == "yes"
             and not reading.moves_money()):
         return Outcome(NOWHERE, "held")
-    if no_seconds:
-        return Outcome(FILED, "no seconds")
-    # Where seconds are paid, they take the place of the octets.
-    large = any((said.number(it) or 0) >= 1 << 30 for it in (INPUT[1], OUTPUT[1]))
-    if large and not reading.is_paid_by_seconds():
+    if any((said.number(it) or 0) >= 1 << 30 for it in (INPUT[1], OUTPUT[1])):
         return Outcome(FILED, "2^62")
     limit = choices.limit()
     if limit is not None and (said.number(DELAY) or 0) > limit:
@@ -286,10 +273,6 @@ def record(reading, status):
         count = proved(said, kinds)
         if count and reading.client.wraps == "yes":
             found[NUMBERS[kinds[1]]] = count
-    if reading.is_paid_by_seconds():
-        found["Acct-Input-Octets"] = said.number(TIME) or 0
-        for kind in (52, 43, 53):
-            found[NUMBERS[kind]] = None
     return {name: value for name, value in found.items() if value not in (None, b"")}
 
 

@@ -69,15 +69,14 @@ class Round:
                 return
         self.counts()
         self.cuts()
-        if not self.choices.shards:
-            self.drain()
+        self.drain()
 
     def log_in(self):
         """Logs in where FreeRADIUS remembers logins."""
         pairs = []
         clients = [it for it in draw.CLIENTS if it.remember == "yes"]
         for name in self.names[:: len(self.names) // 24 * 2]:
-            client, plan = self.rng.choice(clients), self.rng.choice([b"gold", b"hour", b"brass"])
+            client, plan = self.rng.choice(clients), self.rng.choice([b"gold", b"free", b"brass"])
             session = self.rng.choice([None, *draw.IDS])
             body = attribute(model.NAME, name) + attribute(87, plan)
             body += attribute(model.SESSION, session) if session else b""

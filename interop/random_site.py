@@ -27,7 +27,6 @@ sys.path.insert(0, os.path.join(front.ROOT, "etc"))
 
 from radacctl.setup.front import HOME as CUT
 
-SHARDS = os.path.join(front.ROOT, "etc", "shards", "policy")
 REALMS = "realm suffix {\n\tformat = suffix\n\tdelimiter = \"@\"\n}\n"
 # proxy.conf: the server of the realms that are elsewhere.
 HOME = """
@@ -69,7 +68,6 @@ server default {{
 		suffix
 	}}
 	accounting {{
-		{shard}
 		radacctd_accounting
 		update reply {{
 			&User-Name := &request:User-Name
@@ -154,16 +152,12 @@ class Site(front.FreeRadius):
 
     def write_files(self, book, settings):
         super().write_files(book, settings)
-        shard = "radacctd_shard" if self.choices.shards else ""
-        text = DEFAULT.format(listen=self.listening(), shard=shard)
-        written(self.path("sites-enabled/default"), text)
+        written(self.path("sites-enabled/default"), DEFAULT.format(listen=self.listening()))
         written(self.path("mods-enabled/realms"), REALMS)
         self.reads(False)
         text = front.RADIUSD.format(folder=self.folder, library=front.library())
         most = f"reject_delay = 0\n\tmax_attributes = {model.MOST_ATTRIBUTES}"
         written(self.path("radiusd.conf"), text.replace("reject_delay = 0", most))
-        with open(SHARDS, encoding="utf-8") as file:
-            written(self.path("policy.d/radacctd-shards"), file.read())
 
     def start(self):
         done = self.is_right()
@@ -226,14 +220,12 @@ def lines_of(choices):
     found = [("realms", f'"{choices.realms}"'), ("proxied", f'"{choices.proxied}"'),
              ("strip", f'"{choices.strip}"'), ("hold", f'"{choices.hold}"'),
              ("oldest_report", choices.oldest_report), ("readers", choices.readers),
-             ("left_out", f'"{choices.left_out}"'), ("time_classes", '"^hour$"'),
+             ("left_out", f'"{choices.left_out}"'),
              ("class", f'"{choices.plan}"'), ("share", choices.share),
              ("if_old", f'"{choices.if_old}"'), ("last_quota", choices.last_quota),
              ("oldest", 600), ("cut_pause", 600)]
     if choices.names_device:
         found.append(("person", '"%{tolower:%{User-Name}} %{NAS-Identifier}"'))
-    if choices.shards:
-        found.append(("queue", '"${radacctdir}/radacctd/%{Tmp-String-8}"'))
     return found
 
 

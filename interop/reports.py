@@ -1,4 +1,4 @@
-"""Rows of interop/tools: radacctd-report, over nights of use, and over exports that this writes."""
+"""Rows of interop/tools: radacctl report, over nights of use, and over exports that this writes."""
 
 import csv
 import gzip
@@ -69,7 +69,7 @@ class Exports:
         """The status, what it printed, and its tables."""
         self.count += 1
         tables = os.path.join(self.folder, f"tables-{self.count}")
-        command = [self.tool, "--folder", f"{self.folder}/exports", "--csv", tables]
+        command = [*self.tool, "--folder", f"{self.folder}/exports", "--csv", tables]
         command += ["--settings", self.settings, "--sales", self.sales, *words]
         done = subprocess.run(command, capture_output=True, text=True, check=False)
         found = {}
@@ -231,8 +231,8 @@ def nights_of_use(site, nights):
 
 
 def reported(nights, folder, *words):
-    """The status, the text, and the tables that radacctd-report wrote, as lines."""
-    tool = [nights.site.tool("radacctd-report"), "--folder", nights.exports, "--csv", folder]
+    """The status, the text, and the tables that radacctl report wrote, as lines."""
+    tool = [nights.site.tool("radacctl"), "report", "--folder", nights.exports, "--csv", folder]
     # Whatever this machine's own site is.
     tool += ["--settings", f"{folder}.none", "--sales", f"{folder}.none"]
     status, output, errors = run([*tool, *words], env={"TZ": "UTC"})
@@ -312,4 +312,4 @@ def test_report(folder):
     check("no exports of a date", (status, "no two exports" in text), (1, True))
     report_of_gone(nights, folder)
     report_of_lines(nights, folder)
-    test_rows(site.tool("radacctd-report"), f"{folder}/rows")
+    test_rows([site.tool("radacctl"), "report"], f"{folder}/rows")

@@ -236,9 +236,9 @@ def report(status, session, octets, more=(), plan="gold"):
     ]
 
 
-def told(server, command):
+def told(server, command, *more):
     """How a command over the book ended, and what it printed."""
-    done = subprocess.run(server.words(command), capture_output=True, text=True)
+    done = subprocess.run([*server.words(command), *more], capture_output=True, text=True)
     return done.returncode, done.stdout, done.stderr
 
 

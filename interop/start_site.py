@@ -6,7 +6,7 @@ import time
 import machine
 from served import check
 
-PACKAGES = [*machine.SITE, "fail2ban", "nftables", "python3-systemd", "openssl"]
+PACKAGES = [*machine.SITE, "openssl"]
 HOST, RADDB = "accounts.hotel.test", "/etc/freeradius/3.0"
 ANSWERS = "/root/site.toml"
 # A container has no clock of its own to keep.

@@ -42,11 +42,18 @@ def cut_short(server, length):
     os.truncate(server.book + "-wal", length)
 
 
+# What is left to do if commits are lost, and if the log shows none.
+TO_DO = ": restore a copy, or give --lose-damaged-commits, which loses them"
+UNSHOWN = "this log shows no lost commit"
+TO_GO_ON = (": a killed sqlite3 leaves that, and so does a lost block: restore a copy, or give"
+            " --lose-damaged-commits to go on")
+
+
 def refused_as_damaged(server, what):
     """Each command refuses a book whose log is damaged, says why, and changes nothing."""
     there = [text_of_octets(server.book + more) for more in ("", "-wal")]
     why = f"explained: {server.book}: {what}"
-    to_do = ": restore a copy, or give --lose-damaged-commits, which loses them"
+    to_do = TO_GO_ON if what.endswith(UNSHOWN) else TO_DO
     for command in ("check", "serve", "import", "migrate", "plans", "forward"):
         wanted = (3, ["db: cannot open", why + to_do])
         check(f"{command} of {what}", explained(server.words(command)), wanted)
@@ -107,7 +114,7 @@ def damaged(folder):
     serves_the_rest(server, 19, ["--lose-damaged-commits"])
     server.book = whole
     cut_short(server, 32 + ends[-1] * size - 1000)
-    refused_as_damaged(server, what)
+    refused_as_damaged(server, f"frame {ends[-1]} of its log is damaged, and {UNSHOWN}")
     serves_the_rest(server, 19, ["--lose-damaged-commits"])
     server.book = whole
     server.start(1 << 62)

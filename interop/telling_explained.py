@@ -110,7 +110,12 @@ def explained_databases(folder):
     whole = server.book
     form = "it has the tables of a book in another form or order, as VACUUM or a dump leaves them"
     for name, text, why in (
-        ("empty", None, "it is an empty database, and init makes a book in it"),
+        ("empty", None, "it is an empty file, and init makes a book in it"),
+        (
+            "without a table",
+            "CREATE TABLE other (name TEXT); DROP TABLE other",
+            "it is an empty database, and init makes a book in it",
+        ),
         (
             "of another program",
             "CREATE TABLE other (name TEXT)",

@@ -1,4 +1,4 @@
-"""Rows of interop/tools: radacctd-debit."""
+"""Rows of interop/tools: radacctl debit."""
 
 import os
 import socket
@@ -9,7 +9,7 @@ from served import check, free_port
 from tool_site import BOOKS, CASHIER, DEBIT, SITE, Site, rights_of, run, text_of, write
 
 class Debit:
-    """Runs radacctd-debit over a site."""
+    """Runs radacctl debit over a site."""
 
     def __init__(self, site):
         self.site = site
@@ -18,7 +18,7 @@ class Debit:
         write(self.secret, BOOKS[1].decode() + "\n")
 
     def words(self, *more, port=None):
-        words = [self.site.tool("radacctd-debit"), "--config", self.site.config]
+        words = [self.site.tool("radacctl"), "debit", "--config", self.site.config]
         words += ["--db", self.site.book, "--port", str(port or self.site.ports[0])]
         return [*words, "--secret-file", self.secret, "--journal", self.journal, *more]
 

@@ -5,7 +5,6 @@ gives the command again to its end. What it was to do is then done once, by expo
 RADACCTD_KILLS says how many rounds there are, and RADACCTD_SEED chooses them.
 """
 
-import csv
 import json
 import os
 import random
@@ -31,9 +30,11 @@ class Killed:
         self.site.start()
         self.folder, self.faults, self.counts = folder, [], {}
         self.accounts, self.sold, self.sheets, self.number = set(), {}, {}, 0
-        os.mkdir(f"{folder}/stock")
+        self.withdrawn = set()
+        os.mkdir(f"{folder}/site", 0o700)
         os.mkdir(f"{folder}/backups")
-        write(f"{folder}/key", CASHIER + "\n")
+        for name in ("key", "radacctd-site.key"):
+            write(f"{folder}/{name}", CASHIER + "\n")
         write(f"{folder}/settings.json", json.dumps(SETTINGS))
         # How long a whole run of each takes, once it is known.
         self.times = {}
@@ -120,39 +121,36 @@ class Killed:
         self.need("each voucher is there", (status, sum(found[:2]), found[2]), (0, len(rows), 0))
         self.sold |= rows
 
-    def vouchers(self, *more):
-        return self.tool("voucher", "--stock", f"{self.folder}/stock/stock.csv", "--settings",
-                         f"{self.folder}/settings.json", *more)
+    def site_env(self):
+        """Where the kit has site.db, its money, and a cashier's key for the desk."""
+        return {"RADACCTD_SITE": f"{self.folder}/site", "CREDENTIALS_DIRECTORY": self.folder,
+                "RADACCTD_SETTINGS": f"{self.folder}/settings.json",
+                "RADACCTD_DESK": f"127.0.0.1:{self.site.ports[1]}"}
 
-    def stock(self):
-        """The codes of each sheet of the stock."""
-        found = {}
-        for row in csv.reader(text_of(f"{self.folder}/stock/stock.csv").splitlines()[1:]):
-            found.setdefault(row[2], []).append(row[0])
-        return found
+    def listed(self, *sheet):
+        return self.whole("list", self.tool("voucher", "list", *sheet), env=self.site_env())[1]
 
     def voucher(self):
-        words = self.vouchers("--count", "3", "--sum", "1.00", "--to", self.folder)
-        self.kill("voucher", words)
-        self.need("a sheet is in the stock whole or not", {*map(len, self.stock().values())} - {3},
-                  set())
-        status, output, _ = self.whole("voucher", words)
+        words = self.tool("voucher", "make", "3", "1.00")
+        self.kill("voucher", words, env=self.site_env())
+        counts = {int(it) for it in re.findall(r"live (\d+), given 0, withdrawn 0", self.listed())}
+        self.need("a sheet is live whole or not", counts - {3}, set())
+        status, output, _ = self.whole("voucher", words, env=self.site_env())
         sheet = SHEET.search(output)
         self.need("a sheet is made", (status, sheet is not None), (0, True))
         if sheet:
-            self.need("its codes are in the stock", len(self.stock()[sheet[0]]), 3)
-            self.sheets[sheet[0]] = self.stock()[sheet[0]]
+            rows = self.listed(sheet[0]).splitlines()[1:]
+            self.need("its codes are live", [it.split(",")[2] for it in rows], ["live"] * 3)
+            self.sheets[sheet[0]] = [it.split(",")[0] for it in rows]
 
     def withdraw(self):
         if not self.sheets:
             return
         sheet, codes = self.sheets.popitem()
-        words = self.vouchers("--withdraw", sheet, "--yes")
-        self.kill("withdraw", words)
-        self.need("it is withdrawn", self.whole("withdraw", words)[0], 0)
-        for name in ("withdrawn.csv", "second.csv"):
-            text = text_of(f"{self.folder}/stock/{name}")
-            self.need(f"once in {name}", [text.count(it) for it in codes], [1] * len(codes))
+        words = self.tool("voucher", "withdraw", "--yes", sheet)
+        self.kill("withdraw", words, env=self.site_env())
+        self.need("it is withdrawn", self.whole("withdraw", words, env=self.site_env())[0], 0)
+        self.withdrawn |= set(codes)
 
     def night(self):
         env = {"RADACCTD_CONFIG": self.site.config, "RADACCTD_BOOK": self.site.book,
@@ -175,18 +173,6 @@ class Killed:
     def copies(self):
         return sorted(it for it in os.listdir(f"{self.folder}/backups") if it[0] == "2")
 
-    def rewrite(self):
-        self.site.kill()
-        before = self.exports()
-        words = self.tool("rewrite", "--config", self.site.config, self.site.book)
-        self.kill("rewrite", words)
-        self.need("the book is as it was", self.exports() == before, True)
-        status, _, errors = self.whole("rewrite", words)
-        self.need("a rewrite ends well", (status, errors.splitlines()[-1:]) if status else 0, 0)
-        self.need("and changes nothing", self.exports() == before, True)
-        self.need("nor leaves a folder", os.path.exists(self.site.book + ".new"), False)
-        self.site.start()
-
     def exports(self):
         return [self.site.command("export", it)[1] for it in ("sessions", "balances", "topups")]
 
@@ -196,14 +182,14 @@ def test_kills(folder):
     rounds = int(os.environ.get("RADACCTD_KILLS", ROUNDS))
     rng = random.Random(seed)
     it = Killed(folder, rng)
-    names = ["key", "revoke", "sell", "voucher", "withdraw", "night", "rewrite"]
+    names = ["key", "revoke", "sell", "voucher", "withdraw", "night"]
     try:
         it.site.send(INTERIM, "S-1", 5_000_000)
         for number in range(rounds):
             getattr(it, names[number % len(names)])()
         it.site.kill()
-        wanted = sorted(f"{number},{account},{total}"
-                        for number, (account, total) in it.sold.items())
+        wanted = [f"{number},{account},{total}" for number, (account, total) in it.sold.items()]
+        wanted = sorted(wanted + [f"W-{code},%00withdrawn,1" for code in it.withdrawn])
         check(f"each of {len(wanted)} vouchers is credited once", topups(it.site), wanted)
     finally:
         it.site.kill()

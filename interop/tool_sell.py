@@ -1,4 +1,4 @@
-"""Rows of interop/tools: radacctd-sell."""
+"""Rows of interop/tools: radacctl sell."""
 
 import http.server
 import os
@@ -17,8 +17,8 @@ ODD += ["Müller".encode(), b"x" * 253, b"x" * 254, b'"a\nb"', b"%00", b"\\", b'
 
 
 def sell(site, text, *more):
-    """Runs radacctd-sell over a text of octets: status, output and errors."""
-    words = [site.tool("radacctd-sell"), "--port", str(site.ports[1])]
+    """Runs radacctl sell over a text of octets: status, output and errors."""
+    words = [site.tool("radacctl"), "sell", "--port", str(site.ports[1])]
     words += ["--key-file", os.path.join(site.folder, "key"), *more]
     done = subprocess.run(words, input=text, capture_output=True, timeout=3 * LONGEST)
     return done.returncode, done.stdout.decode(), done.stderr.decode()

@@ -47,7 +47,6 @@ class = "debit"
 block = 1
 unit = 1
 """
-KEY = '\n[[key]]\ntoken = "{}-key-0000000001"\naccount = "{}"\n'
 MIB = 1 << 20
 INTERIM, STOP = 3, 2
 # So long a command may take, in seconds, on a machine with other work.

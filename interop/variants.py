@@ -1,33 +1,21 @@
-"""Rows of interop/pages: a pair, shards, and cashiers with client certificates."""
+"""Rows of interop/pages: a pair, and cashiers with client certificates."""
 
-import contextlib
-import json
 import os
 import subprocess
 import time
 
 import front_desk
-import shards_site
 from browser import Browser
 from proxy import Proxy
-from served import CASHIER, GUEST, Server, check
+from served import CASHIER, Server, check
 
-ONE, PAIR, SHARDS = (f"include radacctd/desks-{it}.conf;" for it in ("one", "pair", "shards"))
-# The two books of 16 that have a server here. zoe's is the second; GUEST's key names none.
-SHARD_BOOKS = ("s0", "sa")
-SHARD_GUEST = "sa-guest-key-0002"
-ALL_SHARDS = [f"s{digit:x}" for digit in range(16)]
-SHARD_KEY = f"""
-[[key]]
-token = "{SHARD_GUEST}"
-account = "zoe"
-"""
+ONE, PAIR = (f"include radacctd/desks-{it}.conf;" for it in ("one", "pair"))
 
 
 class Site:
-    """Two servers behind one nginx of a variant, and their balances in one folder."""
+    """Two servers behind one nginx, as a pair, and their balances in one folder."""
 
-    def __init__(self, folder, variant, changes=()):
+    def __init__(self, folder, changes=()):
         os.mkdir(folder)
         self.folder, self.servers, self.balances = folder, [], []
         for name in ("a", "b"):
@@ -39,39 +27,15 @@ class Site:
         kept = "/var/lib/radacctd-balances/"
         names = ("balances.csv", "balances-b.csv")
         places = ("10.0.0.5:8066", "10.0.0.6:8066")
-        if variant == SHARDS:
-            names = [f"{it}.csv" for it in SHARD_BOOKS]
-            places = ("10.0.0.5:8100", "10.0.0.6:8110")
-        changes = [(ONE, variant), *changes]
+        changes = [(ONE, PAIR), *changes]
         for server, address in zip(self.servers, places):
             changes.append((address, f"127.0.0.1:{server.desk}"))
-        if variant == SHARDS:
-            # The others are away, and have no accounts.
-            changes += [(f"10.0.0.{it}:81", "127.0.0.1:81") for it in (5, 6)]
-            os.mkdir(f"{folder}/others")
-            for it in ALL_SHARDS:
-                with open(f"{folder}/others/{it}.csv", "w", encoding="ascii") as file:
-                    file.write("account,balance,overrun\n")
         changes += [(kept + it, to) for it, to in zip(names, self.balances)]
-        if variant == SHARDS:
-            changes.append((f"{kept}s", f"{folder}/others/s"))
         self.proxy = Proxy(f"{folder}/nginx", CASHIER, changes)
 
     def start(self, at):
         more = ["--balances", self.balances[at], "--balances-every", "1"]
         self.servers[at].start(1 << 62, more)
-
-    def has_written(self, at, account):
-        """Waits until a server's balances have an account. The page knows of no later ones, and a
-        server without events looks after five seconds whether it is time to write them.
-        """
-        until = time.monotonic() + 20
-        while time.monotonic() < until:
-            with contextlib.suppress(OSError), open(self.balances[at], encoding="ascii") as file:
-                if f"\n{account}," in file.read():
-                    return True
-            time.sleep(0.1)
-        return False
 
     def end(self):
         self.proxy.end()
@@ -88,20 +52,16 @@ def topups(server):
 def sell_by_page(browser, account, units):
     front_desk.letters(browser, "D2")
     front_desk.type_sale(browser, account, units)
-    # Among shards the page asks once it has computed the account's book.
-    until = time.monotonic() + 2
-    while time.monotonic() < until and not browser.js("return draft !== null"):
-        time.sleep(0.05)
     browser.click("#yes")
 
 
 def pair(folder):
     """A sale goes to both books of a pair; a guest reads the one that is there."""
-    site = Site(folder, PAIR)
+    site = Site(folder)
     browser = Browser(folder)
     first, second = site.servers
     try:
-        site.proxy.settings({}, books=["a", "b"])
+        site.proxy.settings(books=["a", "b"])
         site.start(0)
         site.start(1)
         site.proxy.start()
@@ -119,13 +79,6 @@ def pair(folder):
         check("until that took it, too", browser.shows("None", "#pending", 25), True)
         check("both have it", (first.balance(), second.balance()), (400, 400))
         pair_refuses(browser, site)
-        first.kill()
-        check(
-            "a guest reads while the first is away",
-            site.proxy.status("/me/balance", key=GUEST),
-            200,
-        )
-        site.start(0)
         first.kill(), second.kill()
         rows = [it for it in topups(first) if not it.startswith("D2-TAKEN")]
         check("the books are the same but for the number of the first", rows, topups(second))
@@ -154,78 +107,6 @@ def pair_refuses(browser, site):
     check("the first is back", browser.shows("Sold. room 12 has 1.00 EUR more.", seconds=25), True)
     check("then both have it", browser.shows("None", "#pending", 25), True)
     check("once each", (first.balance(), second.balance()), (500, 500))
-
-
-def shards(folder):
-    """A guest's key and a sale get to the book that has the account, among 16 of them."""
-    site = Site(folder, SHARDS)
-    browser = Browser(folder)
-    first, second = site.servers
-    with open(second.config, "a", encoding="utf-8") as file:
-        file.write(SHARD_KEY)
-    try:
-        site.proxy.settings({}, shards=ALL_SHARDS)
-        site.start(0)
-        site.start(1)
-        site.proxy.start()
-        check("shards: a sale names its book", site.proxy.sell("zoe", 100, "S-1", book="sa"), 201)
-        check("without one it gets nowhere", site.proxy.sell("zoe", 100, "S-2"), 404)
-        check("nor to a book of no server", site.proxy.sell("zoe", 100, "S-2", book="s1"), 503)
-        status, _, body = site.proxy.curl("/me/balance", key=SHARD_GUEST)
-        check("a key gets to its book", (status, json.loads(body)["balance"]), (200, 100))
-        check("another key gets to the first", site.proxy.status("/me/balance", key=GUEST), 200)
-        check("eve is in a wrong book", site.proxy.sell("eve", 100, "S-3", book="s0"), 201)
-        check("whose balances say so", site.has_written(0, "eve"), True)
-        browser.open()
-        browser.log_in("anna", "anna-has-a-pass")
-        browser.go(site.proxy.url("/desk/"))
-        browser.shows("anna", "#cashier")
-        shards_away(browser)
-        shards_by_page(browser)
-        first.kill(), second.kill()
-        sums = [it.split(",", 1)[1] for it in topups(second)]
-        check("the second has its sales", sorted(sums), ["zoe,100", "zoe,200"])
-        sums = [it.split(",", 1)[1] for it in topups(first)]
-        check("the first has its own", sorted(sums), ["eve,100", "new 2,300"])
-    finally:
-        browser.kill()
-        site.end()
-
-
-def shards_away(browser):
-    """14 of the 16 books have no server: the page says of which nobody knows who is overdrawn."""
-    away = ", ".join(it for it in ALL_SHARDS if it not in SHARD_BOOKS)
-    said = browser.shows(f"Not all books can be reached just now: {away}.", "#message", 20)
-    check("the page names the books that are away", said, True)
-    known = browser.text("#over").strip()
-    check("and whose overdrawn accounts are not known", known, f"Not known of {away}.")
-
-
-def shards_by_page(browser):
-    """The page finds the book of each account, and sells nothing to one in a wrong book."""
-    known = [it for it in accounts() if it == it.strip()]
-    lines = "".join(shards_site.shown(it.encode()) + "\n" for it in known)
-    wanted = [it[:2] for it in shards_site.tool("of", input=lines)[1].splitlines()]
-    got = browser.js("return Promise.all(arguments[0].map(shardOf))", known)
-    check(f"the page and radacctd-shards agree on {len(known)} names", got == wanted, True)
-    sell_by_page(browser, "zoe", "2")
-    check("the page finds the book", browser.shows("Sold. zoe has 2.00 EUR more."), True)
-    sell_by_page(browser, "new 2", "3")
-    check("that of a new account, too", browser.shows("Sold. new 2 has 3.00 EUR more."), True)
-    sell_by_page(browser, "eve", "2")
-    check("and sells nothing to one in a wrong book", browser.shows("in a wrong book"), True)
-    browser.js("document.querySelector('#sales button:last-child').click()")
-    command = browser.text("#correction")
-    check("a correction names the shards' tool", "radacctd-shards debit -- '" in command, True)
-
-
-def accounts():
-    """Names that a cashier could type."""
-    for octets in shards_site.names():
-        try:
-            yield octets.decode()
-        except UnicodeDecodeError:
-            pass
 
 
 def client_certificate(folder):
@@ -263,10 +144,10 @@ def certificates(folder):
         ),
         ("# ssl_verify_client", "ssl_verify_client"),
     ]
-    site = Site(folder, PAIR, changes)
+    site = Site(folder, changes)
     client_certificate(folder)
     try:
-        site.proxy.settings({})
+        site.proxy.settings()
         site.start(0)
         site.proxy.start()
         body = ("-H", "Radacctd: desk", "-d", '{"account":"al","sum":5,"voucher":"C-1"}')
@@ -281,7 +162,6 @@ def certificates(folder):
             site.proxy.status("/desk/a/topups", *other, *body),
             400,
         )
-        check("guests need none", site.proxy.status("/me/balance", key=GUEST), 200)
         named = ("-u", "mallory:x", *body[:-1], body[-1].replace("C-1", "C-2"))
         beside_certificate(site.proxy, own, named)
     finally:

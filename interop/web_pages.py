@@ -9,7 +9,7 @@ import tempfile
 
 from served import ROOT, check
 
-PAGES = ("guest", "desk", "redeem", "operator")
+PAGES = ("desk", "operator")
 # Texts that a page has not, or not in each language with the same places for values.
 UNSAID = """
 const places = (it) => (it.match(/\\{\\d\\}/g) || []).sort().join();

@@ -62,13 +62,6 @@ function made(tag, attributes, ...within) {
   return it;
 }
 
-// What an address has behind its #, which leaves the address bar at once.
-function ofAddress(name) {
-  const given = new URLSearchParams(location.hash.slice(1)).get(name);
-  if (location.hash) history.replaceState(null, "", location.pathname);
-  return given;
-}
-
 // The texts that stand in the page, and its title, which has the name of the house.
 function drawTexts() {
   document.documentElement.lang = language;

@@ -4,7 +4,7 @@
 PROGRAMS = {
     "apt", "apt-get", "chown", "cp", "curl", "df", "dmesg", "find", "free", "freeradius", "fuser", "gcc",
     "journalctl", "ldd", "lintian", "ls", "man", "mv", "nginx", "promtool", "python3", "radclient",
-    "rt", "sensible-editor", "sqlite3", "ss", "strace", "systemctl", "systemd-analyze", "tail",
+    "rt", "sqlite3", "ss", "strace", "systemctl", "systemd-analyze", "tail",
     "tcpdump",
 }
 
@@ -16,7 +16,7 @@ def each(reason, *texts):
 
 # FreeRADIUS' own files, words and texts. What it has of this repository is in etc/freeradius.
 FREERADIUS = each(
-    "FreeRADIUS, its folder, an access server or the first edition has it",
+    "FreeRADIUS, its folder or an access server has it",
     '"accept"',
     '"last"',
     '"refuse"',
@@ -24,8 +24,6 @@ FREERADIUS = each(
     "Configuration appears to be OK",
     "Session-Timeout",
     "Simultaneous-Use",
-    "access-servers/*.conf",
-    "ap1=10.0.0.1",
     "detail.work",
     "radacctd-queue.clock",
     "radacctd-queue.cut",
@@ -33,10 +31,7 @@ FREERADIUS = each(
     "radacctd-queue.undated",
     "radacctd-queue.volatile",
     "use_tunneled_reply",
-    "is-empty",
-    "is-over",
     "nasipaddress",
-    "poll-overruns",
     "radacctd/access-servers.conf",
     "radacctd/settings.conf",
     "settings.conf",
@@ -44,9 +39,7 @@ FREERADIUS = each(
     "al@campus.example",
     "sites-available/tls",
     "tls",
-    "clients.conf",
     "proxy.conf",
-    "radiusd.conf",
     "sites-enabled/default",
     "sites-enabled/inner-tunnel",
 )
@@ -59,20 +52,18 @@ VENDORS = each(
     "Mikrotik-Total-Limit",
     "Output-Octets",
     "Recv",
-    "Session-Timeout",
     "Xmit",
     "max_attributes",
     "radacctd_quota = chillispot",
     "radacctd_quota = pfsense",
     "radius_acct_interim_interval",
     "radius_das_port",
-    "radiusd.conf",
     "status_server = yes",
 )
 
 ALLOWED = {
     "*": {
-        "site.tar.gz": "radacctd-site makes it in a night's copy",
+        "site.tar.gz": "radacctl site makes it in a night's copy",
         "rattle-kit-13f logic dac8208d650f15bf": "the kit's own name of its version",
         **each("sqlite3's own words", ".backup", ".dump"),
         **each("sqlite3's own words", "-readonly", "PRAGMA journal_mode=DELETE"),
@@ -82,9 +73,6 @@ ALLOWED = {
         "book-away": "a fault's name: .ci/tools compares them",
     },
     "CHANGELOG.md": {
-        **each("FreeRADIUS' own file, or a copy of one", "mods-enabled/radacctd-pair"),
-        **each("a copy of a file of etc/freeradius, and lines of it", "radacctd/settings.conf"),
-        **each("a line of a client in FreeRADIUS", "radacctd_stamp", "mirror"),
         "radacctd 0.1.0 (schema 3)": "what --version prints",
     },
     "docs/BOOK.md": {
@@ -98,7 +86,7 @@ ALLOWED = {
         "and_then(word_of)": "shows what the checker does not accept",
     },
     "docs/DAMAGE.md": each("restore makes it", ".restore.*", "book.replaced-..."),
-    "man/radacctl.8": each("a command of radacctl", "edit", "redeem", "night", "guest", "allow"),
+    "man/radacctl.8": each("a command of radacctl", "night", "guest", "allow", "person"),
     "docs/PACKAGES.md": {
         **each("a member of the file of packages", "title", "valid", "until", '"sale"',
                "slow.down", "slow.up", "slow.plan", "slow.reply"),
@@ -120,11 +108,11 @@ ALLOWED = {
         "/desk/": "nginx' path",
         **each("a member of the answers", "desk_guests", "desk_corrections", "operators",
                "left_out", "virtual_servers"),
-        **each("a file, section or module of FreeRADIUS, or its database's", "clients.conf",
+        **each("a file, section or module of FreeRADIUS, or its database's",
                "filter_username", "mods-enabled/sql", "sql", "radacct", "accounting",
                "accounting = true"),
         "/root/radacctd-setup": "radacctl setup makes it",
-        **each("a table of the answers", "[sql]", "[secrets]"),
+        **each("a table of the answers", "[sql]"),
         "~before-": "a part of a name that radacctl setup makes",
     },
     "docs/ACCESS-SERVERS.md": {
@@ -133,12 +121,12 @@ ALLOWED = {
         "radacctd = no": "a line of a client in FreeRADIUS",
     },
     "docs/DESK.md": {
-        **each("Debian's packages", "fcgiwrap", "fonts-dejavu-core", "fonts-droid-fallback"),
+        "site.db": "the file of the pages' service",
         "adm": "a group of the system",
-        "ignoreip": "fail2ban's own",
+        "/logins/ACCOUNT/CLASS[/LOGIN[/STATION/SECONDS]]": "a path of the desk, with its parts",
         **each("nginx' paths", "/desk/", "/operator/", "/redeem/"),
-        "revoke": "a command of radacctd-key",
-        **each("a member of settings.json", "time_classes", "url"),
+        "revoke": "a command of radacctl key",
+        **each("a member of settings.json", "url"),
     },
     "docs/FRONTDESK.md": each(
         "an example", "https://accounts.example.org/desk/", "mueller-1126"
@@ -159,12 +147,9 @@ ALLOWED = {
         "radacctd_*_amd64.deb": "bin/package makes it",
     },
     "man/radacctd-backup.8": {"FOLDER/book-wal": "a copy"},
-    "man/radacctd-edit.8": {
-        "FILE.edit-base": "radacctd-edit makes it",
-        "FILE.edit-lock": "radacctd-edit makes it",
-    },
     "man/radacctd-restore.8": {"BOOK.replaced-DATE-TIME": "restore makes it"},
     "docs/PAIR.md": {
+        "site.db": "the file of the pages' service",
         **each(
             "FreeRADIUS' own file, or a copy of one of etc/freeradius",
             "radiusd.conf",
@@ -184,15 +169,10 @@ ALLOWED = {
             "here: the queue for the other machine: 700 s old",
         ),
         "OnFailure=": "systemd's own",
-        "settings.json": "radacctd-pages makes it",
+        "settings.json": "radacctl pages makes it",
         "radacctd/pair.conf": "a copy of a file of etc/pair",
     },
     "man/radacctd-outbox.8": {"/waiting": "a path of radacctd-outbox' own"},
-    "docs/SHARDS.md": {
-        **each("made by the page's steps", "/etc/radacctd-s0.toml", "/root/s7", "s7.moved"),
-        **each("another program's", ".ssh/authorized_keys", "sites-enabled/default"),
-        "radacctd/settings.conf": "a copy of a file of etc/freeradius",
-    },
     "man/radacctd-nightly.8": {"exports/DATE": "a folder that it makes"},
     "docs/TROUBLE.md": {
         **each(
@@ -202,7 +182,6 @@ ALLOWED = {
         **each("systemd's own", "LimitAS=", "LimitDATA=", "LimitFSIZE=", "MemoryMax="),
         **each("systemd's own", "activating (auto-restart)", "activating (start-post)"),
         "Not confirmed yet": "web/desk/index.html shows it",
-        "fail2ban-client set radacctd unbanip": "fail2ban's own",
     },
     "man/radacctd.8": {".new": "the end of a name"},
     "man/radacctd.8.in": {".new": "the end of a name"},

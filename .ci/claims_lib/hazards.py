@@ -37,7 +37,6 @@ KEPT = {
         "Anyone who can watch the network reads keys and answers",
         "and else empty",
         "an access server that gives one session id to two guests",
-        "With two desks in `RADACCTD_DESKS` both must take a code",
         "the withdrawals since the copy of the night are lost",
         "So end keys at check-out",
     ),
@@ -80,7 +79,6 @@ KEPT = {
         "that group reads every secret and the cashiers' keys",
         "The secrets and keys of the sample are public",
         "never with `cp` while the server runs",
-        "Of 16 books restart each server by name",
     ),
     "docs/PAIR.md": (
         "Never skip step 3",
@@ -104,16 +102,9 @@ KEPT = {
         "Whoever chooses the User-Name chooses who pays",
         "All of this rests on a disk that keeps what it took",
     ),
-    "docs/SHARDS.md": (
-        "Never run a book on two machines",
-        "does not log in. A report of one is charged, as of any other name",
-        "Not back to one book",
-        "A voucher's number is known to its book only",
-        "No redeem page",
-    ),
     "docs/SITE.md": (
         "a restart fails",
-        "A key that `radacctd-key` ends between copy and rename comes back",
+        "A key that is made or ended between copy and rename is lost, or comes back",
         "its sessions are priced by `default` until then",
         "or the next start fails",
         "If you run the server without the unit, give `plans-in-force` yourself",

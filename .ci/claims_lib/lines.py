@@ -16,7 +16,7 @@ SOURCES = (
 )
 PLAN = "config: read again: ...; plan gold {}; the plans stay"
 PUBLIC = ("... is the sample's, which is public", "anyone may know a secret or token in force:"
-          " replace it by `radacctl edit`")
+          " replace it")
 AWAY = "the book or its log is not where its name leads: [nothing is"
 # Each text of a source with an example of its line, and what it means: a pair, or a list of several.
 # None: as the text before it.

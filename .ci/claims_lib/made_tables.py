@@ -130,21 +130,19 @@ def commands(_checker):
 EXPLAINED = {
     "setup": "[START](START.md)",
     "doctor": "[DOCTOR](DOCTOR.md)",
-    "edit": "[SITE](SITE.md#change-clients-and-keys-while-the-server-runs)",
     "key": "[DESK](DESK.md#keys-and-cards)",
     "sell": "[below](#credit-a-file-of-vouchers)",
     "debit": "[below](#take-money-back)",
     "voucher": "[DESK](DESK.md#printed-vouchers)",
-    "redeem": "[DESK](DESK.md#printed-vouchers)",
+    "person": "[DESK](DESK.md#the-pages-service)",
+    "minute": "[DESK](DESK.md#the-pages-service)",
     "packages": "[PACKAGES](PACKAGES.md#codes-that-log-in)",
     "guest": "[PACKAGES](PACKAGES.md#guests)",
     "allow": "[PACKAGES](PACKAGES.md#allowances)",
     "report": "[below](#reports)",
     "night": "[below](#copies-and-exports-each-night)",
     "site": "[GONE](GONE.md#restore-the-site)",
-    "rewrite": "[FORWARD](FORWARD.md#make-the-file-small)",
     "pages": "[DESK](DESK.md#put-a-proxy-in-front)",
-    "shards": "[SHARDS](SHARDS.md#sell-correct-make-keys)",
 }
 
 

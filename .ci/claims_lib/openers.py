@@ -56,13 +56,14 @@ RULES = (
 )
 
 # How many calls of what binds sockets, or of what calls that, stand in each source: no second one.
-BINDS = re.compile(r"\b\w+::bind\w*\(|(?<!fn )\bbound\(")
+BINDS = re.compile(r"\b\w+::bind\w*\(|(?<!fn )\b(?:bound|bind_reports)\(")
 BINDERS = {
     "crates/acct_net/src/datagrams.rt": 2,
     "crates/acct_net/src/desk.rt": 1,
-    "crates/acct_net/src/sockets.rt": 2,
+    "crates/acct_net/src/sockets.rt": 1,
     "crates/acct_program_explain/src/socket_faults.rt": 2,
     "crates/acct_program_serving/src/sockets_server.rt": 2,
+    "crates/acct_program_jobs/src/serving.rt": 1,
 }
 
 # What a source may name of std where files and processes are. Else all of it is only for the two.
@@ -85,8 +86,9 @@ GIVEN = {
     JOBS + "audit_job.rt": "audit_book audited_from",
     JOBS + "checking.rt": "check check_or_audit check_files check_book checked_from",
     JOBS + "command.rt": "carry_out serve_files export exported",
-    JOBS + "database.rt": "made adopted opened opened_anew emptied",
+    JOBS + "database.rt": "made adopted listed opened opened_anew emptied",
     JOBS + "making.rt": "make made_and_closed",
+    JOBS + "plans_job.rt": "list_plans listed_from",
     JOBS + "work.rt": "over work_on",
 }
 

@@ -71,7 +71,7 @@ def logins(checker):
 
 # ---- why a name is refused
 
-NAMES = "etc/radacctl/names.py"
+NAMES = "site/core/names.py"
 REASONS = {
     "it has N octets, not 1 to 253": "a RADIUS attribute holds no more",
     "it is not UTF-8": "pages and cards cannot show it",

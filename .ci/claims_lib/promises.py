@@ -20,7 +20,7 @@ from claims_lib.tree import ROOT, text_of
 OPERATORS = (
     "README ACCESS-SERVERS BOOK CLERK DAMAGE DESK DOCTOR FILES FORWARD FREERADIUS FRONTDESK GONE"
     " INSTALL PACKAGES PAIR"
-    " SEMANTICS SHARDS SITE SIZING START TROUBLE VOUCHERS WATCHING"
+    " SEMANTICS SITE SIZING START TROUBLE VOUCHERS WATCHING"
 ).split()
 PROMISE = re.compile(
     r"\b(?:never|always|charged\s+once|credited\s+once|exactly\s+once|acts?\s+once|counts\s+once"

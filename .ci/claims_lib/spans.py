@@ -113,6 +113,8 @@ class Checker:
             return None
         own = self.tool(os.path.basename(self.page)[:-2]) if self.page.startswith("man/") else ""
         tools = [own] if own else [*self.tools()]
+        tools += [] if own else [it for path, it in self.tree.scripts.items()
+                                 if path.startswith("site/")]
         if (not own and found[1] in self.options) or any(has(it, found[1]) for it in tools):
             return ""
         return f"`{text}`: no command has this option"
@@ -120,40 +122,43 @@ class Checker:
     def tools(self):
         """The texts of the tools that are installed next to the program."""
         tools = re.findall(r"radacctd-[a-z][a-z-]*", self.tree.scripts["bin/install"])
-        folders = ("etc/tools/", "etc/shards/", "etc/pair/")
+        folders = ("etc/tools/", "etc/pair/")
         tools += [os.path.basename(it) for it in self.tree.scripts if it.startswith(folders)]
-        return [it for it in map(self.tool, tools) if it]
+        commands = [it for path, it in self.tree.scripts.items()
+                    if path.startswith("etc/radacctl/commands/")]
+        return [*commands, *(it for it in map(self.tool, tools) if it)]
 
     def tool(self, name):
         """The text of a tool by the name that it is installed by, or "" if there is none."""
         short = name.removeprefix("radacctd-")
         if short == name:
             return ""
-        commands = self.tree.scripts["etc/radacctl/main.py"]
-        command = re.search(rf'"(\w+)": \(.*"{name}"\),$', commands, re.M)
-        if command and (module := f"etc/radacctl/commands/{command[1]}.py") in self.tree.scripts:
-            return self.tree.scripts[module]
-        folders = ("etc/tools", "etc/shards", "etc/pair")
+        folders = ("etc/tools", "etc/pair")
         places = [f"{it}/{name}" for it in folders] + [f"etc/{short}", f"interop/{short}"]
         return next((self.tree.scripts[it] for it in places if it in self.tree.scripts), "")
+
+    def kit_command(self, name):
+        """The text of a command of the kit, or ""."""
+        scripts = self.tree.scripts
+        for path in (it for it in scripts if re.fullmatch("site/[^/]+/feature.py", it)):
+            if found := re.search(rf'"{name}": \(".*", "(\w+)"\)', scripts[path]):
+                return scripts[f"{os.path.dirname(path)}/{found[1]}.py"]
+        return ""
 
     def tool_line(self, text, _block):
         """A command line of such a tool."""
         name, *words = text.split()
         if name == "radacctl" and words:
-            command = f"etc/radacctl/commands/{words[0]}.py"
-            if f'"{words[0]}": (' not in self.tree.scripts["etc/radacctl/main.py"]:
+            command, of_kit = f"etc/radacctl/commands/{words[0]}.py", self.kit_command(words[0])
+            if f'"{words[0]}": "' not in self.tree.scripts["etc/radacctl/main.py"] and not of_kit:
                 return f"`{text}`: radacctl has no command `{words[0]}`"
-            source = self.tree.scripts.get(command, "--")
+            source = of_kit or self.tree.scripts.get(command, "--")
             lost = [it for it in words[1:] if it[:2] == "--" and not has(source, it)]
             return f"`{text}`: `radacctl {words[0]}` has no option {lost[0]}" if lost else ""
         if not re.fullmatch(r"radacctd-[a-z]+(?:-[a-z]+)*", name) or name in self.tree.paths:
             return None
         if not self.tool(name):
             return f"`{text}`: no tool `{name}`" if words else None
-        if name == "radacctd-shards" and words[:1] in (["each"], ["for"], ["key"], ["sell"]):
-            # What follows is another program's command line.
-            words = words[:1]
         lost = [it for it in words if it.startswith("--") and not has(self.tool(name), it)]
         lost = [it for it in lost if it != "--help"]
         return f"`{text}`: `{name}` has no option {lost[0]}" if lost else ""
@@ -258,7 +263,7 @@ class Checker:
         if any(word in it for it in known):
             return True
         own = {"docs/FREERADIUS.md": "etc/freeradius/", "docs/WATCHING.md": "etc/monitoring/"}
-        own |= {"docs/SHARDS.md": "etc/", "docs/PAIR.md": "etc/", "docs/ACCESS-SERVERS.md": "etc/"}
+        own |= {"docs/PAIR.md": "etc/", "docs/ACCESS-SERVERS.md": "etc/"}
         folder = own.get(self.page, "no folder")
         if self.page == "docs/WATCHING.md" and word.startswith("radacctd_"):
             # The counts that are not the program's.

@@ -11,29 +11,35 @@ from claims_lib.tree import text_of, without_comments
 SOURCES = (
     "crates/acct_desk/src/refusals.rt",
     "crates/acct_desk/src/handling.rt",
+    "crates/acct_desk/src/pages.rt",
     "crates/acct_desk_pages/src/json_response.rt",
 )
 NUMBERS = {
-    "OK": 200, "CREATED": 201, "BAD_REQUEST": 400, "UNAUTHORIZED": 401, "FORBIDDEN": 403,
-    "NOT_FOUND": 404, "METHOD_NOT_ALLOWED": 405, "CONFLICT": 409, "PAYLOAD_TOO_LARGE": 413,
+    "OK": 200, "CREATED": 201, "BAD_REQUEST": 400, "UNAUTHORIZED": 401, "PAYMENT_REQUIRED": 402,
+    "FORBIDDEN": 403, "NOT_FOUND": 404, "METHOD_NOT_ALLOWED": 405, "CONFLICT": 409, "PAYLOAD_TOO_LARGE": 413,
     "UNPROCESSABLE_ENTITY": 422, "SERVICE_UNAVAILABLE": 503,
 }
 # The words of each body with its cause. Bad requests are found before the key, and after it.
 CAUSES = (
     ("bad request", "no whole HTTP request, a transfer coding, or a bad or second Content-Length"),
     ("too large", "the head exceeds 8,192 octets, or the body 4,096"),
-    ("no such path", "none of the five paths, compared octet by octet"),
+    ("no such path", "none of the paths above, compared octet by octet"),
     ("wrong method", "the other method; the line `Allow` names the right one"),
     ("no key", "no `Desk-Key`, or no such key; the first of several counts"),
-    ("not allowed", "a guest's key at a cashier's path, or the reverse"),
+    ("not allowed", "a key of another kind than the path's"),
     ("bad request", "the body of a top-up is no JSON"),
     ("bad topup", "a member of the top-up is missing or out of its bounds"),
+    ("bad login", "a part of the login's path is out of its bounds, or its stamp exceeds 253 octets"),
+    ("no balance", "the balance is below the price of a block"),
     ("voucher differs", "this number was credited to another account, or with another sum"),
     ("balance limit", "the balance would leave its range, 2^62 either way"),
     ("unavailable", "the book could not be read or written"),
     ("new", "the voucher was credited"),
     ("repeat", "this very voucher was credited before"),
 )
+
+# Whose key has a role.
+BEARERS = {"Account": "a guest's", "Cashier": "the cashier's", "Logins": "the front's"}
 
 
 def bodies():
@@ -44,6 +50,9 @@ def bodies():
         call = r'(error|result)_octets\(\s*alloc,\s*StatusCode::(\w+),\s*([^;]*?)"([a-z ]+)",?\s*\)'
         for kind, status, _, words in re.findall(call, text):
             found[words] = (NUMBERS[status], kind)
+        told = r'error_value\(alloc, "([a-z ]+)"\)\?;\s*Ok\(Told \{\s*status: StatusCode::(\w+)'
+        for words, status in re.findall(told, text):
+            found[words] = (NUMBERS[status], "error")
     return found
 
 
@@ -64,12 +73,13 @@ def requests(checker):
     routes, asking = text_of("crates/acct_desk/src/routes.rt"), text_of("crates/acct_desk/src/asking.rt")
     yield "| Path | Method | Key | What is there |"
     yield "|---|---|---|---|"
-    found = re.findall(r"    /// `(/[a-z/]+)`: (.+?)\.\n    (\w+),", routes)
+    found = re.findall(r"    /// `(/[A-Za-z/\[\]]+)`: (.+?)\.\n    (\w+),", routes)
     for path, about, name in found:
         method = "POST" if re.search(rf"Endpoint::{name} => \"POST\"", routes) else "GET"
-        is_cashiers = re.search(rf"Endpoint::{name}, Role::Cashier", asking)
-        yield f"| `{path}` | {method} | {'the cashier' if is_cashiers else 'a guest'}'s | {about} |"
-    if {it[0] for it in found} != set(re.findall(r'router.insert\("([^"]+)"', routes)):
+        role = re.search(rf"Endpoint::{name}, Role::(\w+)", asking)
+        yield f"| `{path}` | {method} | {BEARERS[role[1]]} | {about} |"
+    fixed = {it[0] for it in found if it[0].islower()}
+    if fixed != set(re.findall(r'router.insert\("([^"]+)"', routes)):
         checker.find(1, "a path of the desk has no comment")
 
 

@@ -21,8 +21,8 @@ MOST = {
     "docs/CODEC.md": 970,
     "docs/CONTRACTS.md": 100,
     "docs/DAMAGE.md": 1225,
-    "docs/DECISIONS.md": 1440,
-    "docs/DEFINITIONS.md": 1295,
+    "docs/DECISIONS.md": 1610,
+    "docs/DEFINITIONS.md": 1300,
     "docs/DESK.md": 1325,
     "docs/DOCTOR.md": 200,
     "docs/FEED.md": 300,
@@ -36,16 +36,15 @@ MOST = {
     "docs/PACKAGES.md": 1600,
     "docs/PAIR.md": 1850,
     "docs/PROOFS.md": 2335,
-    "docs/SEMANTICS.md": 880,
-    "docs/SHARDS.md": 1420,
-    "docs/SITE.md": 635,
+    "docs/SEMANTICS.md": 1130,
+    "docs/SITE.md": 645,
     "docs/SIZING.md": 575,
     "docs/START.md": 865,
     "docs/TROUBLE.md": 1795,
     "docs/VOUCHERS.md": 920,
     "docs/WATCHING.md": 395,
 }
-MOST_IN_ALL = 35470
+MOST_IN_ALL = 34000
 # A page that no other work has bounded yet.
 NEW_PAGE = 1500
 MOST_IN_SENTENCE, MOST_IN_CELL = 30, 25

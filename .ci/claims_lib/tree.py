@@ -13,7 +13,7 @@ ROOT = os.path.dirname(os.path.dirname(os.path.dirname(os.path.abspath(__file__)
 MADE = {".git", "out", "target", "__pycache__", "try"}
 FOR_TESTS = re.compile(r"_tests$|^acct_book_fakes$|^foreign_packets$|^chosen_sizes$")
 # The folders of what is no crate and prints texts or has names of its own.
-SCRIPTS = (".ci/", "bench/", "bin/", "etc/", "interop/")
+SCRIPTS = (".ci/", "bench/", "bin/", "etc/", "interop/", "site/")
 
 ITEMS = [
     r"\bfn (\w+)",

@@ -10,7 +10,6 @@ RUN = {
     "GONE": "interop/gone_page.py",
     "INSTALL": "interop/install_page.py",
     "PAIR": "interop/pair_page.py",
-    "SHARDS": "interop/shards_page.py",
     "SITE": "interop/front_page.py",
     "START": "interop/start",
     "WATCHING": "interop/monitoring",

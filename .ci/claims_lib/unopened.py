@@ -23,6 +23,8 @@ CURES = {
     " [`init`](INSTALL.md#the-first-start)",
     "next to it is a log, LOG, of a book that is missing": "[find its"
     " file](DAMAGE.md#the-book-is-missing): the log has what was answered",
+    "it is an empty file, and init makes a book in it": "look for the book; only for a new site:"
+    " [`init`](INSTALL.md#the-first-start)",
     "it has fewer than 100 octets, so it is no book": "look for the book; if there is none, as"
     " printed",
     "another program has it": "stop the server, or the other command: `fuser -v` and the file",
@@ -36,6 +38,7 @@ CURES = {
     "it is no regular file": PATH,
     "the disk refused": "`dmesg`",
     "frame 12 of its log is damaged, and 36 commits end there or behind it": DAMAGED,
+    "frame 12 of its log is damaged, and this log shows no lost commit": DAMAGED,
     "the header of its log is damaged, and each commit in it is lost": DAMAGED,
     "it is no SQLite database": "another path, or [restore the last"
     " copy](DAMAGE.md#restore-the-last-copy)",
@@ -54,7 +57,7 @@ def texts():
     log = without_comments(text_of(f"{FOLDER}/log_faults.rt"))
     found += re.findall(r'"explained: \{file\}: ([^"]+)"', log)
     for text in found:
-        text = re.sub(r"\\\n\s*", "", text).split("{to_do}")[0]
+        text = re.split(r"\{to_\w+\}", re.sub(r"\\\n\s*", "", text))[0]
         for name, value in VALUES.items():
             text = text.replace(name, value)
         yield text

@@ -17,7 +17,7 @@ TABLES = {
             "NotToml": "look for a missing quote, bracket or equals sign, a name given twice, a number"
             " past 64 bits",
             "BadShape": "write `[[client]]`, not `[client]`; texts have quotes, numbers and `true`"
-            " none; a key has `account` or `cashier`; past 4,096 keys use [16 books](SHARDS.md)",
+            " none; a key has `account` or `cashier`; at most 4,096 keys",
             "BadClient": "no host names, no leading zeros, no spaces",
             "TwiceClient": "one table for each access server",
             "BadPlan": "a free class has the unit 0",
@@ -26,6 +26,8 @@ TABLES = {
             "BadKey": "remove the key of a former cashier: `cashier` is only `true`",
             "TwiceKeyed": "give each bearer a different token",
             "Memory": "free memory, try again: its table and index mean nothing",
+            "BadStamp": "make one of 32 random letters and digits",
+            "NoStamp": "add `[stamp]` with a secret, or take `stamped` away",
         },
     ),
     "record": (

@@ -286,37 +286,6 @@ class Again(Folder):
         os.remove(self.path)
         self.assertTrue(web.has_debians_page(), "nginx does not start with a link to nothing")
 
-    def test_fail2ban_goes_by_the_networks_that_were_given_last(self):
-        """It runs, and its jail is there: so is the file that it has not read yet."""
-        self.patched(web, "JAIL", self.put("[radacctd]\n"))
-        for start, later, is_done in (("a", -60, False), ("b", 60, True)):
-            self.started(start, later=later)
-            self.assertEqual(web.watching().is_done(), is_done)
-
-    def test_a_front_desk_that_nobody_named_is_told(self):
-        self.patched(of_web, "JAIL", self.put("", "jail.d", "radacctd.conf"))
-        jails = of_web.JAILS.replace("/etc/fail2ban", self.folder)
-        self.patched(of_web, "JAILS", jails)
-        self.patched(of_web, "JAIL_LOCAL", os.path.join(self.folder, "jail.local"))
-        self.patched(of_web, "FOLDER", self.folder)
-        self.patched(of_web.look, "run", lambda *_: (0, ""))
-        self.patched(of_web.files, "sample", lambda *_: files.text(of_web.FILTER))
-        for jail, more, cashiers, count in (
-            ("", "", "anna:x\n", 1), ("ignoreip = 127.0.0.1/8 ::1\n", "", "anna:x\n", 1),
-            ("ignoreip = 127.0.0.1/8 ::1\n", "", "", 0),
-            ("ignoreip = 127.0.0.1/8 10.0.1.0/24\n", "", "anna:x\n", 0),
-            ("ignoreip = ::1\n", "[DEFAULT]\nignoreip = ::1\n  desk.example.org\n", "a:x\n", 0),
-        ):
-            self.put(jail, "jail.d", "radacctd.conf")
-            self.put(more, "jail.local")
-            self.put(cashiers, "cashiers")
-            found = [it.name for it in of_web.fail2ban()]
-            self.assertEqual(found, ["fail2ban-desk"] * count, (jail, more, cashiers))
-        self.put("", "jail.d", "radacctd.conf")
-        self.put("", "jail.local")
-        self.put("ignoreip = 10.0.1.0/24\n", "jail.d", "zz.local")
-        self.assertEqual(list(of_web.fail2ban()), [])
-
     def test_what_a_site_changes_of_nginx_stays(self):
         """Its rates, and where it listens; other lines have a file that is never written again."""
         one = wanted(name="x", currency="EUR", host="a.example.org")
@@ -332,27 +301,12 @@ class Again(Folder):
         self.patched(web, "FOLDER", self.folder)
         self.assertIn("include radacctd/own*.conf;", text)
         for name in ("own.conf", "login.conf"):
-            step = next(it for it in web.of(one, mock.Mock(keys={"cashier": "c", "redeem": "r"}))
+            step = next(it for it in web.of(one, mock.Mock(keys={"cashier": "c", "site": "s"}))
                         if getattr(it, "path", "") == os.path.join(self.folder, name))
             self.assertEqual(step.wanted(b"# mine\n"), b"# mine\n")
             self.assertTrue(step.wanted(None).startswith(b"# "))
         self.put("old\n")
         self.assertIn(f"{self.folder}/own.conf", web.Server(self.path, lambda _: "new\n").text())
-
-    def test_what_a_site_changes_of_fail2ban_stays(self):
-        """As the file says: if many guests share an address, it may mistype more."""
-        one = wanted(front_desk=["10.0.1.0/24"])
-        [step] = [it for it in web.fail2ban(one)
-                  if getattr(it, "path", "") == web.JAIL]
-        jail = step.wanted(None).decode()
-        self.assertIn("\nignoreip = 127.0.0.1/8 ::1 10.0.1.0/24\n", jail)
-        mine = jail.replace("maxretry = 10", "maxretry=200").replace("1h", "10m")
-        self.assertEqual(step.wanted(mine.encode()).decode(), mine)
-        other = mine.replace("10.0.1.0/24", "10.0.9.0/24").replace("nftables", "iptables")
-        self.assertEqual(step.wanted(other.encode()).decode(), mine)
-        # Another one that begins alike is not in the place of one.
-        more = f"{mine}bantime.increment = true\n"
-        self.assertEqual(step.wanted(more.encode()).decode(), mine)
 
     def test_what_a_site_decides_of_a_pair_stays(self):
         """In another folder of the queue reports for the other machine would wait for ever."""
@@ -386,8 +340,8 @@ class Again(Folder):
         seen = []
         refused = lambda where, **_: seen.append(where) or os.stat("/missing")
         self.patched(of_web.socket, "create_connection", refused)
-        found = [it.text for it in of_web.answers(mock.Mock(has_codes=False), text)]
-        self.assertEqual((len(found), set(seen)), (3, {("10.0.0.5", 443)}))
+        found = [it.text for it in of_web.answers(mock.Mock(), text)]
+        self.assertEqual((len(found), set(seen)), (4, {("10.0.0.5", 443)}))
 
     def test_who_logs_in_by_a_certificate_is_refused_without_one(self):
         """A page that nobody may see is no fault; nor is one that asks for a password."""
@@ -400,22 +354,8 @@ class Again(Folder):
             for found in (401, 403):
                 self.patched(of_web, "asked", lambda _, path, it=found: (
                     it if path == "/desk/" else 200))
-                told = list(of_web.answers(mock.Mock(has_codes=False), ""))
+                told = list(of_web.answers(mock.Mock(), ""))
                 self.assertEqual(bool(told), found != status, (login, found))
-
-    @NEEDS_ROOT
-    def test_a_site_of_16_books_gets_no_other_one(self):
-        """Nor is a part of it taken out: its lines in FreeRADIUS' files are others."""
-        self.patched(setup.kind, "TABLE", self.put("shard,address,radius,desk\n"))
-        self.patched(setup, "LOCK", os.path.join(self.folder, "lock"))
-        self.patched(setup.answers, "read", lambda _: wanted())
-        for name in ("do", "remove"):
-            self.patched(setup, name, lambda *_: self.fail("it was begun"))
-        for one in (["--dry-run", "x"], ["--remove", "--yes"]):
-            with contextlib.redirect_stderr(io.StringIO()) as said, \
-                    mock.patch.object(os, "umask"):
-                self.assertEqual(setup.main(one), 1)
-            self.assertIn("SHARDS.md", said.getvalue())
 
     def test_a_key_of_codes_is_not_shown(self):
         self.put("packages {\n\tkey = change-me-0123456789\n}\n")
@@ -476,11 +416,12 @@ class Again(Folder):
 
     def test_a_clock_that_was_ahead_keeps_no_set_up_from_its_end(self):
         """Each file seems newer than any server that is started now."""
-        self.patched(web, "JAIL", self.put("[radacctd]\n"))
+        self.put("x")
         self.patched(steps.time, "monotonic", iter(range(0, 999, 30)).__next__)
         self.started(later=-3600)
-        web.watching().do()
-        self.assertTrue(web.watching().is_done())
+        fresh = steps.Fresh("x", "x.service", [self.path])
+        fresh.do()
+        self.assertTrue(fresh.is_done())
 
     def test_who_was_started_again_by_hand_is_known_by_the_clock(self):
         for start, later, is_done in (("a", -60, False), ("b", 60, True), ("c", -60, False)):
@@ -698,7 +639,7 @@ class Pages(Folder):
         for more, is_right in (("", True), ("    ssl_certificate x;\n    listen 1 ssl;\n", False)):
             self.sample = f"server {{\n    listen 127.0.0.1:9;\n{more}}}\n"
             found = list(web.of(wanted(name="x", currency="EUR", host="a.example.org"),
-                                mock.Mock(keys={"cashier": "c", "redeem": "r"})))
+                                mock.Mock(keys={"cashier": "c", "site": "s"})))
             [trial] = [it for it in found if isinstance(it, steps.Trial)]
             trial.steps = [it for it in trial.steps if it.path == web.CONF]
             self.assertLess(found.index(trial), found.index(trial.steps[0]))

@@ -37,13 +37,6 @@ class Answers(unittest.TestCase):
             self.assertIn("no address", self.wrong(server=text), text)
             self.assertIn("no address", self.wrong(access_server=[{"name": "a", "address": text}]))
             self.assertIn("no address", self.wrong(pair={"own": "10.9.0.5", "other": text}))
-        # fail2ban would read what is behind the mark as a name of its own.
-        self.assertIn("no address", self.wrong(front_desk=["fe80::1%eth0"]))
-
-    def test_the_front_desk_is_spelled_as_fail2ban_reads_it(self):
-        found = answers_of(front_desk=["10.0.1.0/255.255.255.0", "10.0.2.0/0.0.0.255", "10.0.3.7",
-                                       "fd00:0::/64"]).front_desk
-        self.assertEqual(found, ["10.0.1.0/24", "10.0.2.0/24", "10.0.3.7", "fd00::/64"])
 
     def test_a_table_without_a_member_is_no_site_without_it(self):
         self.assertIn("[pair] lacks `own`", self.wrong(pair={}))

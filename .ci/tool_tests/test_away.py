@@ -97,8 +97,8 @@ class Asks(unittest.TestCase):
             self.assertTrue(found, names)
             self.assertLess(found.start(), re.search(stop, text).start(), names)
 
-    def test_the_shell_knows_each_book(self):
-        """The unit of each server, and the book that it is asked for."""
+    def test_the_shell_knows_the_book(self):
+        """The unit of the server, and the book that it is asked for."""
         for name, begin, end in (("postinst", "may_restart() {", "\n}\n"),
                                  ("prerm", "refuse_if_away() {", "\n}\n")):
             text = self.text("etc", "package", name)
@@ -110,19 +110,18 @@ class Asks(unittest.TestCase):
                     file.write('#!/bin/sh\necho "$@"\nexit ${STATUS:-0}\n')
                 os.chmod(program, 0o755)
                 body = body.replace("/usr/libexec/radacctd", folder)
-                names = "names_of() { printf '%s\\n' \"$@\" | sed 's/@[*]/@s3/'; }"
+                names = "names_of() { printf '%s\\n' \"$@\"; }"
                 run = "refuse_if_away"
                 if name == "postinst":
-                    run = "for it in radacctd.service radacctd@s3.service radacctd-key.timer; do "
+                    run = "for it in radacctd.service radacctd-key.timer; do "
                     run += 'may_restart "$it" || exit 1; done'
                 script = f"set -e\nstate=/var/lib/radacctd\n{names}\n{body}\n{run}\n"
                 wanted = "radacctd.service /var/lib/radacctd/book\n"
-                more = "radacctd@s3.service /var/lib/radacctd/s3/book\n"
-                for status, text in (("0", wanted + more), ("1", wanted), ("2", wanted)):
+                for status in ("0", "1", "2"):
                     done = subprocess.run(["sh", "-c", script], capture_output=True, text=True,
                                           env={**os.environ, "STATUS": status})
                     self.assertEqual((done.returncode, done.stdout),
-                                     (int(status != "0"), text), (name, status))
+                                     (int(status != "0"), wanted), (name, status))
 
 
 class Doctor(unittest.TestCase):
@@ -131,7 +130,7 @@ class Doctor(unittest.TestCase):
     def setUp(self):
         with unittest.mock.patch.object(kind, "is_there", lambda *_: False):
             with unittest.mock.patch("os.path.exists", lambda _: False):
-                self.book = kind.Kind().books[0]
+                self.book = kind.Kind().book
 
     def found(self, status, counted, lines, state="active", is_there=True):
         def run(*words, **_):
@@ -144,7 +143,7 @@ class Doctor(unittest.TestCase):
             for target, name, value in (
                 (look, "run", run), (look, "samples", lambda _: counts),
                 (look, "status_of", lambda _: is_there or None),
-                (copies, "last_good", lambda _: "/var/backups/radacctd/2026-11-28"),
+                (copies, "last_good", lambda: "/var/backups/radacctd/2026-11-28"),
             ):
                 stack.enter_context(unittest.mock.patch.object(target, name, value))
             return [(it.text, it.cure) for it in book.away(self.book)]
@@ -180,7 +179,7 @@ class Doctor(unittest.TestCase):
         self.assertEqual(faults.gravity("book-away"), faults.CRITICAL)
         others = [
             faults.Fault("unit-down", "x", "systemctl start radacctd.service; why it stopped: ..."),
-            faults.Fault("plan-waits", "x", "systemctl restart radacctd@s3.service"),
+            faults.Fault("plan-waits", "x", "systemctl restart radacctd.service"),
             faults.Fault("mirror-plans", "x", "systemctl restart radacctd; of a pair, .."),
             faults.Fault("queue-waits", "x", "systemctl status radacctd; look at secret"),
             faults.Fault("mirror-old", "x", "systemctl status radacctd radacctd-mirror; date"),

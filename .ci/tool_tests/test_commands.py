@@ -1,24 +1,21 @@
-"""What commands do with texts: keys in a configuration, files of vouchers, stock, shards."""
+"""What commands do with texts: keys in a configuration, files of vouchers, stock."""
 
 import contextlib
 import functools
 import gzip
-import http.server
 import io
 import json
 import os
 import re
-import socket
 import subprocess
 import tempfile
-import threading
 import tomllib
 import unittest
 from unittest import mock
 
 from radacctl import configuration, debits, desk, files, keys, main, names, sales_log
-from radacctl import program, shards as books, site, stock
-from radacctl.commands import allow, debit, guest, key, packages, redeem, sell, voucher
+from radacctl import stock
+from radacctl.commands import allow, debit, guest, key, packages, sell
 from tool_tests import ROOT, Folder
 
 CONFIG = '''# A site.
@@ -143,14 +140,9 @@ class UsualDesk(unittest.TestCase):
         sales = (sell, []), (allow, ["x", "--month", "2026-12"]), (guest, ["list"])
         sales += (packages, ["sell", "x"]), (packages, ["tick"])
         for path, port in (("/nonexistent", 8066), (__file__, 8067)):
-            with mock.patch.object(site, "PAIR", path):
+            with mock.patch.object(desk, "PAIR", path):
                 found = {it.parser().parse_args(words).port for it, words in sales}
                 self.assertEqual((found, desk.usual()), ({port}, ("127.0.0.1", port)))
-                code = (f"from radacctl import site; site.PAIR = {path!r}; "
-                        "from radacctl.commands import redeem; print(redeem.DESKS)")
-                said = subprocess.run(["python3", "-Bc", code], cwd=f"{ROOT}/etc",
-                                      capture_output=True, text=True).stdout
-                self.assertEqual(said, f"127.0.0.1:{port}\n")
 
 
 class Vouchers(unittest.TestCase):
@@ -280,115 +272,6 @@ class Logged(unittest.TestCase):
         self.assertEqual(said.getvalue().count("cannot read"), 2)
 
 
-class Stock(unittest.TestCase):
-    CODE = "ACDEF-HJKMN-PQRT"
-
-    def test_a_wrong_letter_or_two_in_another_order_is_no_code(self):
-        code = self.CODE.replace("-", "")
-        code += stock.check_letter(code)
-        self.assertIsNotNone(stock.code_of(code))
-        for at in range(len(code) - 1):
-            for other in stock.LETTERS:
-                if other != code[at]:
-                    self.assertIsNone(stock.code_of(code[:at] + other + code[at + 1 :]))
-            swapped = code[:at] + code[at + 1] + code[at] + code[at + 2 :]
-            if swapped != code:
-                self.assertIsNone(stock.code_of(swapped))
-
-    def test_a_code_is_for_the_first_account(self):
-        state = stock.after(stock.FREE, stock.GIVEN, "al", "a b")
-        self.assertEqual(stock.after(state, stock.GIVEN, "bo", "a b").account, "al")
-        taken = stock.after(state, stock.TAKEN, "al", "a")
-        self.assertEqual(stock.after(taken, stock.REFUSED, "al", "b").account, "al")
-        self.assertEqual(stock.after(state, stock.REFUSED, "al", "a"), stock.FREE)
-
-
-    def test_what_a_code_is_worth(self):
-        codes = []
-        for at in range(40):
-            letters = "ACDEFHJKMNPQR" + stock.LETTERS[at % 23]
-            codes.append(stock.code_of(letters + stock.check_letter(letters)))
-        rows = [f"{it},{100 + at},vouchers-1\n" for at, it in enumerate(codes[:23])]
-        with tempfile.TemporaryDirectory() as folder:
-            path = os.path.join(folder, "stock.csv")
-            with open(path, "w", encoding="ascii") as file:
-                file.write("code,sum,sheet\n" + "".join(rows))
-                # A line without its end was never written whole; and no sheet is a code.
-                file.write(f"{codes[22]},9,{codes[1]},\n{codes[2]},7")
-            found = [stock.worth(path, it) for it in codes[:3]]
-            self.assertEqual(found, [100, 101, 102])
-            self.assertIsNone(stock.worth(os.path.join(folder, "none"), codes[0]))
-
-    def test_the_state_is_that_of_the_code_alone(self):
-        text = b"1,given,%s,al,a b\n1,given,%s,bo,a\n2,taken,%s,al,a\n"
-        one, other = (stock.code_of(it + stock.check_letter(it)) for it in (
-            "ACDEFHJKMNPQRT", "ACDEFHJKMNPQRU"))
-        text %= one.encode(), other.encode(), one.encode()
-        found = [list(stock.events_in(text, it)) for it in (one, other, None)]
-        self.assertEqual([[it[0] for it in rows] for rows in found],
-                         [["given", "taken"], ["given"], ["given", "given", "taken"]])
-        self.assertEqual(list(stock.events_in(b"", one)), [])
-
-
-class Sheets(Folder):
-    """Of printed vouchers: what nobody can redeem is not left to be sold."""
-
-    def setUp(self):
-        super().setUp()
-        with open(os.path.join(self.folder, "settings.json"), "w", encoding="utf-8") as file:
-            json.dump({"url": "https://a.example", "name": "H"}, file)
-        stock_file = os.path.join(self.folder, "stock.csv")
-        self.words = voucher.parsed(["--count", "2", "--sum", "5", "--to", self.folder,
-                                     "--settings", file.name, "--stock", stock_file])
-        drawn = mock.patch.object(voucher.sheets, "money", lambda *_: b"%PDF")
-        drawn.start()
-        self.addCleanup(drawn.stop)
-
-    def failing(self, name, at):
-        """What is left of a sheet as call `at` of os fails: how many files, and codes."""
-        does, calls = getattr(os, name), []
-
-        def call(*words, **more):
-            calls.append(0)
-            if len(calls) == at:
-                raise OSError(5, "Input/output error")
-            return does(*words, **more)
-
-        with mock.patch.object(os, name, call), contextlib.redirect_stderr(io.StringIO()) as said:
-            self.assertRaises(OSError, voucher.make, self.words)
-        left = [it for it in os.listdir(self.folder) if it.startswith("vouchers-")]
-        return len(left), len([*voucher.rows_of(self.words.stock)]), said.getvalue()
-
-    def test_a_sheet_that_is_not_in_the_stock_is_removed(self):
-        # A file and its folder, twice; then the stock's file.
-        for name, at in (*(("fsync", at) for at in range(1, 6)), ("rename", 1)):
-            with self.subTest(f"{name} {at}"):
-                self.assertEqual(self.failing(name, at), (0, 0, ""))
-
-    def test_a_sheet_whose_codes_are_live_stays(self):
-        """The stock has its name, and the disk gave no word for it."""
-        *found, said = self.failing("fsync", 6)
-        self.assertEqual(found, [2, 2])
-        self.assertIn("are in the stock all the same", said)
-
-    def test_a_sheet_is_named_though_the_output_is_full(self):
-        """Its codes are live: who is not told of it would print others."""
-        with open("/dev/full", "w", encoding="utf-8") as full, \
-                mock.patch.object(voucher.sys, "stdout", full), \
-                contextlib.redirect_stderr(io.StringIO()) as said:
-            self.assertEqual(voucher.make(self.words), 0)
-        self.assertIn("2 vouchers of 5, 10 together: ", said.getvalue())
-
-    def test_another_ones_file_stays(self):
-        with mock.patch.object(voucher, "new_sheet", lambda *_: "vouchers-x"):
-            name = os.path.join(self.folder, "vouchers-x.csv")
-            with open(name, "w", encoding="ascii"):
-                pass
-            self.assertRaisesRegex(OSError, "is there already", voucher.make, self.words)
-        self.assertEqual([it for it in os.listdir(self.folder) if it.startswith("v")],
-                         ["vouchers-x.csv"])
-
-
 class Cards(Folder):
     def test_a_card_of_a_key_that_is_live_stays(self):
         """The configuration has its name, and the disk gave no word for it."""
@@ -413,78 +296,6 @@ class Cards(Folder):
                              [wanted, wanted])
 
 
-class Redeem(Folder):
-    def test_the_disk_is_no_desk(self):
-        """The journal has the cause that a person can cure."""
-        given = mock.Mock(state=mock.Mock(side_effect=OSError(5, "Input/output error")))
-        it = redeem.Redeeming.__new__(redeem.Redeeming)
-        it.given, it.code, it.account, it.is_noted = given, "c", "al", False
-        with socket.create_server(("127.0.0.1", 0)) as desks, \
-                mock.patch.object(redeem, "FOLDER", self.folder):
-            it.key = "k"
-            where = "{}:{}".format(*desks.getsockname())
-            with self.assertRaises(program.Failed) as found:
-                it.credit(where, 5)
-        self.assertRegex(str(found.exception), "given.csv: Input/output error")
-
-    def test_no_request_names_the_stock_the_key_or_a_desk(self):
-        """fcgiwrap hands each variable of a request on, and whoever is nginx' user sends any: it
-        sold itself codes that nobody had printed, and got the key of a cashier.
-        """
-        code, body = stock.new_code(), b'{"result":"new"}'
-        files.make(f"{self.folder}/key", b"k" * 16)
-        files.make(f"{self.folder}/stock.csv", f"code,sum,sheet\n{code},500,vouchers-1\n".encode())
-
-        class Desk(http.server.BaseHTTPRequestHandler):
-            def do_POST(self):
-                self.send_response(201)
-                self.send_header("Content-Length", str(len(body)))
-                self.end_headers()
-                self.wfile.write(body)
-
-            def log_message(self, *_):
-                pass
-
-        with http.server.HTTPServer(("127.0.0.1", 0), Desk) as desks:
-            threading.Thread(target=desks.serve_forever, daemon=True).start()
-            self.addCleanup(desks.shutdown)
-            places = {"RADACCTD_STOCK": f"{self.folder}/stock.csv",
-                      "RADACCTD_KEY": f"{self.folder}/key",
-                      "RADACCTD_WITHDRAWN": f"{self.folder}/withdrawn.csv",
-                      "RADACCTD_DESKS": "{}:{}".format(*desks.server_address)}
-            asked = json.dumps({"account": "al", "code": code})
-            own = {"FCGI_ROLE": "RESPONDER", "CONTENT_LENGTH": str(len(asked)), **os.environ}
-            tool = f"{ROOT}/etc/tools/radacctl redeem"
-            for name in (*places, None):
-                # The shell is in the place of fcgiwrap: what it has is the unit's.
-                words = f"{name}={places[name]} {tool}" if name else tool
-                unit = {**own, **{it: text for it, text in places.items() if it != name}}
-                done = subprocess.run(["sh", "-c", f"{words}; exit $?"], env=unit, input=asked,
-                                      capture_output=True, text=True)
-                self.assertEqual(done.stdout[:11], "Status: 503" if name else "Status: 200", name)
-                self.assertIn(f"a request has {name}" if name else "", done.stderr)
-
-    def test_each_variable_that_it_reads_is_one_that_no_request_may_have(self):
-        code = files.text(redeem.__file__).removeprefix(f'"""{redeem.__doc__}"""')
-        self.assertEqual(set(re.findall(r"RADACCTD_[A-Z]+", code)), set(redeem.PLACES))
-
-
-class Shards(unittest.TestCase):
-    def test_case_is_ignored_and_the_book_is_known(self):
-        self.assertEqual(books.shard_of(b"Al"), books.shard_of(b"al"))
-        self.assertEqual({books.shard_of(b"%d" % it) for it in range(999)}, set(books.SHARDS))
-
-
-    def test_a_number_is_for_one_book_however_it_is_spelled(self):
-        """A spreadsheet marks what begins with - by an apostrophe: it is the same number."""
-        one, other = "al", next(it for it in ("bo", "cy", "di", "ed") if (
-            books.shard_of(it.encode()) != books.shard_of(b"al")))
-        for mark in ("", "'"):
-            for second, wanted in ((other, {3: "VoucherDiffers"}), (one, {})):
-                rows = f"voucher,account,sum\n-1,{one},5\n{mark}-1,{second},5\n"
-                vouchers, refused, *_ = sell.read(rows.encode(), frozenset())
-                sell.parts_of(vouchers, books.shard_of, refused)
-                self.assertEqual(refused, wanted)
 
 
 class Program(unittest.TestCase):
@@ -492,23 +303,6 @@ class Program(unittest.TestCase):
 
     def run_it(self, *words, tool=None):
         return subprocess.run([tool or self.TOOL, *words], capture_output=True, text=True, input="")
-
-    def test_each_older_name_is_its_command(self):
-        from radacctl.main import COMMANDS, SCRIPTS
-
-        older = {it: name for name, (_, it) in COMMANDS.items() if it and name not in SCRIPTS}
-        with open(os.path.join(ROOT, "bin/install"), encoding="utf-8") as file:
-            links = re.search(r"for name in (radacctd-debit[^;]*);", file.read())[1]
-        self.assertEqual(sorted(older), links.replace("\\", " ").split())
-        with tempfile.TemporaryDirectory() as folder:
-            for name, command in older.items():
-                os.symlink(self.TOOL, os.path.join(folder, name))
-                said = self.run_it("--help", tool=os.path.join(folder, name))
-                self.assertEqual(said.returncode, 0, name)
-                own = self.run_it(command, "--help").stdout
-                self.assertGreater(len(own), 200)
-                options = [re.findall(r"--[a-z-]+", it) for it in (said.stdout, own)]
-                self.assertEqual(*options)
 
     def test_a_bad_command_line(self):
         for words in ((), ("no-such",), ("--no-such",), ("sell", "--dry")):

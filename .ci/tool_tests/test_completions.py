@@ -6,7 +6,7 @@ import shutil
 import subprocess
 import unittest
 
-from radacctl.main import COMMANDS, SCRIPTS
+from radacctl.main import COMMANDS, KIT, SCRIPTS, cli
 from tool_tests import Folder, ROOT
 
 LIBRARY = "/usr/share/bash-completion/bash_completion"
@@ -74,7 +74,9 @@ class Bash(Folder):
         files = set(os.listdir(self.files))
         for name, words in zip(names, found, strict=True):
             wanted = set(files)
-            for action in importlib.import_module(f"radacctl.commands.{name}").parser()._actions:
+            it = cli.parser(name, cli.module_of(name)) if name in KIT else (
+                importlib.import_module(f"radacctl.commands.{name}").parser())
+            for action in it._actions:
                 wanted |= {it for it in action.option_strings if it.startswith("--")}
                 wanted |= set((not action.option_strings and action.choices) or ())
             with self.subTest(name):

@@ -124,7 +124,6 @@ class Answers(unittest.TestCase):
             self.wrong(access_server=[{"name": text, "address": "10.0.0.1"}])
             self.wrong(cashiers=[text], host="a.example.org", name="x", currency="EUR")
             self.wrong(certificate=text, certificate_key="/etc/x")
-            self.wrong(front_desk=[text])
             self.wrong(server=text)
 
     def read(self, text, mode=0o600):
@@ -146,7 +145,7 @@ class Answers(unittest.TestCase):
                 ('"10.0.0.1"', '5', "no address"), ('"10.0.0.1"', '"10.0.0.1/24"', "host bits"),
                 ('"10.0.0.1"', '"127.0.0.8"', "this machine's own"),
                 ('"10.0.0.5" ', '"10.0.0.0/24" ', "no address of one machine"),
-                ('["10.0.1.0/24"]', "[1]", "no address"), ('"ben"', '"-c"', "- is not first"),
+                ('"ben"', '"-c"', "- is not first"),
                 ('"ben"', "7", "a list of names"), ('"EUR"', '["EUR"]', "a text in quotation"),
                 ('name = "lobby"', 'name = "../x"', "1 to 32 of"),
                 ('name = "lobby"', 'name = "localhost"', "taken"),
@@ -318,7 +317,7 @@ post-auth {
             made = pair.text(wanted, config)
         other = answers.Answers(tomllib.loads(made))
         self.assertEqual(other.pair, {"own": "10.9.0.6", "other": "10.9.0.5", "second": True})
-        self.assertEqual((other.name, other.has_codes), ('The "Inn"', False))
+        self.assertEqual(other.name, 'The "Inn"')
         with unittest.mock.patch("radacctl.site.CONFIG", "/nonexistent"):
             again = alone.Config(other)
         self.assertEqual((again.keys, again.clients), (config.keys, config.clients))
@@ -411,10 +410,9 @@ class Cures(unittest.TestCase):
                 [log] = pages.modes("")
         self.assertEqual(shlex.split(fault.cure), ["chmod", "o=", path])
         self.assertEqual(shlex.split(log.cure)[:3], ["chmod", "o=", f"{path};"])
-        one = unittest.mock.Mock(has_shards=False)
         with unittest.mock.patch.object(freeradius, "settings", lambda: {"queue": f"/{name}"}), \
                 unittest.mock.patch.object(fronts, "states", lambda: []), said((0, "root")):
-            found = [it.cure for it in fronts.queue(one)]
+            found = [it.cure for it in fronts.queue()]
         self.assertEqual([it.count(f" '/{name}'") for it in found], [0, 2])
         self.assertEqual(found[1].count(name), 2)
         group = f"0::/user.slice/user@7.service/{name}.service\n"
@@ -422,13 +420,13 @@ class Cures(unittest.TestCase):
             self.assertEqual(machine.unit_of("9"), "user@7.service")
 
     def test_of_a_unit_that_failed(self):
-        units = "radacctd-nightly.service", "radacctd@s3.service", "radacctd-clerk-work@7-1.service"
+        units = "radacctd-nightly.service", "radacctd-clerk-work@7-1.service"
         lines = "".join(f"{it} loaded failed failed x\n" for it in units)
         # One whose file has gone, as that of a timer that a removal took, is started no more.
         with said((0, lines + "radacctd-clock.timer not-found failed failed x\n")):
             acts = [it.cure.rpartition("systemctl ")[2] for it in machine.failed()]
-        self.assertEqual(acts, [f"start {units[0]}", f"start {units[1]}",
-                                f"reset-failed {units[2]}", "reset-failed radacctd-clock.timer"])
+        self.assertEqual(acts, [f"start {units[0]}", f"reset-failed {units[1]}",
+                                "reset-failed radacctd-clock.timer"])
 
 
 class Sound(unittest.TestCase):
@@ -453,12 +451,12 @@ class Sound(unittest.TestCase):
         for folder in ("\t", " /etc/freeradius/3.0/", " ${confdir}/", "  "):
             self.put("".join(f"$INCLUDE{folder}radacctd/{it}\n" for it in names), "radiusd.conf")
             with said((0, "")), unittest.mock.patch.object(files, "sample", lambda *_: ""):
-                found = list(fronts.steps(unittest.mock.Mock(has_pair=True, has_shards=False)))
+                found = list(fronts.steps(unittest.mock.Mock(has_pair=True)))
                 found += of_packages.lines()
             self.assertEqual([it.text for it in found if "does not include" in it.text], [], folder)
         self.put("# $INCLUDE radacctd/settings.conf\n", "radiusd.conf")
         with said((0, "")):
-            found = list(fronts.steps(unittest.mock.Mock(has_pair=True, has_shards=False)))
+            found = list(fronts.steps(unittest.mock.Mock(has_pair=True)))
         self.assertEqual(len([it for it in found if "does not include" in it.text]), 3)
 
     def test_a_cache_of_eap_is_told(self):
@@ -495,7 +493,7 @@ class Sound(unittest.TestCase):
                 self.assertEqual(len(list(fronts.names_refused())), count)
 
     def test_a_home_server_of_any_file_is_looked_at(self):
-        one = unittest.mock.Mock(books=[unittest.mock.Mock(port=lambda: 11813)])
+        one = unittest.mock.Mock(book=unittest.mock.Mock(port=lambda: 11813))
         text = "home_server {0} {{\n\tport = 11813\n\tstatus_check = {1}\n}}\n"
         self.put(text.format("x", "status-server"), "sites-enabled", "campus")
         self.put(text.format("y", "none"), "proxy.conf")
@@ -613,7 +611,7 @@ class Unseen(unittest.TestCase):
                 [fault] = machine.clock(self.kind)
             self.assertEqual(fault.name, "clock-unset")
             self.unseen(machine.units, self.kind, status=status)
-            self.unseen(book.journal, self.kind.books[0], status=status)
+            self.unseen(book.journal, self.kind.book, status=status)
             self.unseen(pairs.compared, status=status)
             with unittest.mock.patch.object(look, "status_of", lambda _: True):
                 self.unseen(pages.certificates, "ssl_certificate /etc/x.pem;", status=status)
@@ -693,7 +691,7 @@ class Unseen(unittest.TestCase):
         for state, wanted in (("active", ["balances-old"]), ("inactive", [])):
             with said((0, f"ActiveState={state}")):
                 with unittest.mock.patch.object(look, "samples", lambda _: {}):
-                    found = list(book.counts(self.kind.books[0]))
+                    found = list(book.counts(self.kind.book))
             self.assertEqual([it.name for it in found], wanted)
 
     def test_what_waits_is_not_none_if_it_cannot_be_counted(self):
@@ -732,13 +730,6 @@ class Unseen(unittest.TestCase):
             files.replace(f"{path}/book", b"x")
             os.remove(f"{path}/book-wal")
             self.assertEqual([*copies.lost(path)], [])
-            files.make(f"{path}/book-wal", b"l" * 41)
-            # A version before wrote no sums.
-            files.replace(f"{path}/sizes", b"book 1\nbook-wal 50\n")
-            files.replace(f"{path}/book", b"x")
-            self.assertEqual([*copies.lost(path)], [])
-            os.remove(f"{path}/book-wal")
-            self.assertEqual([*copies.lost(path)], [("book-wal", "50")])
         self.assertIn(f"{path}/book-wal has not its 50 octets", found)
         # Its day's exports are looked for by its own name.
         self.assertIn(f"{folder}/exports/2026-01-02 is missing: no report of that day", found)
@@ -754,14 +745,6 @@ class Unseen(unittest.TestCase):
                 found = [it.name for it in pairs.look_at(self.kind)]
         self.assertEqual(found, ["pair-differs"])
 
-    def test_16_books_of_which_none_is_there(self):
-        self.kind.books = []
-        with unittest.mock.patch.object(book, "SECRETS", {}), unittest.mock.patch.object(
-            book, "KEY_FILES", {}
-        ):
-            found = [it.name for it in book.look_at(self.kind)]
-        self.assertEqual(found, ["config-wrong"])
-
     def test_each_trace_of_a_part_tells_that_it_is_wanted(self):
         for trace, name in ((f"{freeradius.path('sites-enabled/radacctd')}", "has_front"),
                             ("/etc/nginx/radacctd/cashier.conf", "has_pages"),
@@ -775,19 +758,16 @@ class Unseen(unittest.TestCase):
         ):
             self.assertRaises(OSError, lambda: list(freeradius.differing()))
 
-    def test_the_files_of_16_books_and_of_a_pair_are_old_too(self):
-        """By an older policy an account's reports go to another book than its money."""
+    def test_the_files_of_a_pair_are_old_too(self):
         with tempfile.TemporaryDirectory() as folder, unittest.mock.patch(
             "radacctl.site.RADDB", folder
         ):
-            for name in ("policy.d/radacctd-shards", "sites-enabled/radacctd-pair"):
-                self.assertEqual(list(freeradius.differing()), [])
-                path = os.path.join(folder, name)
-                os.makedirs(os.path.dirname(path))
-                files.make(path, b"# old\n")
-                [(place, own)] = freeradius.differing()
-                self.assertEqual((place, os.path.exists(own)), (path, True))
-                os.remove(path)
+            self.assertEqual(list(freeradius.differing()), [])
+            path = os.path.join(folder, "sites-enabled/radacctd-pair")
+            os.makedirs(os.path.dirname(path))
+            files.make(path, b"# old\n")
+            [(place, own)] = freeradius.differing()
+            self.assertEqual((place, os.path.exists(own)), (path, True))
 
     def test_a_side_that_does_not_end(self):
         def look_at(_):

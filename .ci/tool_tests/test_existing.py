@@ -382,18 +382,17 @@ class Existing(Folder):
         lines = SERVER.replace("accounting {\n", lines)
         right = front.default(SERVER, self.wanted(), "x")
         late = SERVER.replace("detail", "detail\n\tradacctd_accounting")
-        one = mock.Mock(has_shards=False)
         for text, count in ((SERVER, 2), (lines, 1), (right, 0), (late, 2)):
             self.put("sites-enabled/eduroam", text)
-            self.assertEqual(len(list(doctor_front.lines(one))), count)
+            self.assertEqual(len(list(doctor_front.lines())), count)
         # Of two that sell, each has the lines.
         for more in (late, right.replace("\tradacctd_login\n", "")):
             self.put("sites-enabled/eduroam", right + more.replace("eduroam", "more"))
-            self.assertEqual(len(list(doctor_front.lines(one))), 1 + (more is late))
+            self.assertEqual(len(list(doctor_front.lines())), 1 + (more is late))
         # Another virtual server, for others, is no fault.
         self.put("sites-enabled/more", SERVER.replace("eduroam", "more"))
         self.put("sites-enabled/eduroam", right)
-        self.assertEqual(list(doctor_front.lines(one)), [])
+        self.assertEqual(list(doctor_front.lines()), [])
         self.assertEqual(freeradius.selling(), ["eduroam"])
 
     def test_each_server_of_a_file_sells(self):
@@ -437,7 +436,7 @@ class Existing(Folder):
         for line in ("accounting {\n\tradacctd_accounting\n", "post-auth {\n\tradacctd_login\n"):
             self.assertEqual(found.count(line), 1)
         self.put("sites-enabled/eduroam", found)
-        self.assertEqual(list(doctor_front.lines(mock.Mock(has_shards=False))), [])
+        self.assertEqual(list(doctor_front.lines()), [])
 
     def test_both_lines_of_the_database_are_taken_out(self):
         wanted = {"password_file": "/root/x"}

@@ -14,13 +14,10 @@ sys.path.insert(0, os.path.join(ROOT, "interop"))
 import desk_page
 import install_page
 import pair_page
-import shards_page
-import units_shards
 
 # A page, a part of it, all of its steps, and those with commands that a script types.
 STEPS = (
     ("FREERADIUS", "Set it up", 9, {1, 8, 9}),
-    ("FREERADIUS", "Move from the first edition", 4, {3}),
     ("SITE", "Add a plan", 4, {1, 2, 3, 4}),
     ("PAIR", "Set it up", 12, {2, 3, 4, 5, 6, 7, 8, 9, 11}),
     ("PAIR", "Restore a lost book", 7, {1, 3, 4, 5, 6, 7}),
@@ -30,14 +27,6 @@ STEPS = (
     ("FORWARD", "Late reports", 4, {2}),
     ("FORWARD", "Two books of the same reports", 4, {3}),
     ("GONE", "Restore the site", 9, {1, 2, 3, 4, 5, 6, 7, 8}),
-)
-# The same of SHARDS, whose parts have headings of their own levels.
-SHARDS = (
-    ("### The books, on each machine", {2, 3, 4, 5}),
-    ("### Balances and counts", {1, 2, 3}),
-    ("### FreeRADIUS", {2, 3, 5}),
-    ("### nginx and the desk", {2, 3, 4}),
-    ("## Move a book", {1, 2, 4, 5, 6, 7}),
 )
 
 
@@ -59,32 +48,19 @@ class Followed(unittest.TestCase):
                 self.assertEqual(sorted(found), list(range(1, count + 1)))
                 self.assertEqual(typed - {it for it in found if found[it]}, set())
 
-    def test_shards(self):
-        for title, typed in SHARDS:
-            with self.subTest(title):
-                found = shards_page.commands(title)
-                self.assertEqual(typed - {it for it in found if found[it]}, set())
-        part = shards_page.part("## Sell, correct, make keys")
-        self.assertEqual(len(re.findall(r"\| `(radacctd-shards [^`]*)` \|", part)), 6)
-        self.assertEqual(len(re.findall(r"(?s) {7}\[Service\]\n.*?(?=\n\n|\Z)", part)), 2)
-        self.assertGreater(len(units_shards.steps("### The books")), 6)
-        parts = (
-            ("FREERADIUS.md", "## Set it up", "8. Make the folders"),
-            ("FREERADIUS.md", "8. Make the folders", "9. Start the mirror"),
-            ("SHARDS.md", "3. Copy the policy", "4. In `sites-en"),
-            ("SHARDS.md", "5. Make the folders of", "If a book is down"),
-        )
-        for part in parts:
-            self.assertIn("\n", units_shards.page_of_freeradius(*part))
+    def test_site(self):
+        part = pair_page.section(os.path.join(ROOT, "docs", "SITE.md"),
+                                 "Change clients and keys while the server runs")
+        lines = re.findall(r"(?m)^ {4}(\S.*)$", part)
+        self.assertEqual(first_words(lines), ["cd", "cp", "editor", "radacctd", "mv", "journalctl"])
 
     def test_desk(self):
         proxy = desk_page.steps_of("DESK.md", "## Put a proxy in front", "| Page | For |")
         self.assertEqual(proxy[0].split()[:2], ["apt", "install"])
-        self.assertIn("radacctd-pages", proxy)
-        redeem = desk_page.steps_of("DESK.md", "To set it up:", "With 16 books there is no redeem")
-        self.assertIn("systemctl enable --now radacctd-redeem.socket", redeem)
-        jail = desk_page.steps_of("DESK.md", "closes no sale:", "- **No browser")
-        self.assertEqual(jail[-1], "systemctl restart fail2ban")
+        self.assertIn("radacctl pages", proxy)
+        service = desk_page.steps_of("DESK.md", "### The pages' service", "If a page says that it")
+        self.assertIn("systemctl enable --now radacctd-site.socket radacctd-minute.timer", service)
+        self.assertIn("radacctl person put anna", service)
 
     def test_install(self):
         steps = text_of("INSTALL").split("## The first start\n")[1].split("\nIf the start fails")[0]

@@ -1,4 +1,4 @@
-"""Which processes have a book open, as backup, restore and rewrite ask."""
+"""Which processes have a book open, as backup and restore ask."""
 
 import contextlib
 import os

@@ -16,7 +16,7 @@ from unittest import mock
 from radacctl import archive, files, logins, packages, site, stock
 from radacctl.commands import packages as command
 from radacctl.doctor import packages as doctor
-from tool_tests.test_packages import Here, MEMORY, MONEY, PACKAGE, Site
+from tool_tests.test_packages import Here, MEMORY, MONEY, PACKAGE
 
 # What radacctd-packages.service leaves root: it may read all, and write in no folder of others.
 RIGHTS = "-all,+chown,+fowner,+dac_read_search,+kill,+setuid,+setgid"
@@ -97,7 +97,7 @@ class Devices(unittest.TestCase):
                 made.end({})
             os.makedirs(f"{folder}/2026-01-06/book")
             with mock.patch.object(doctor.copies, "place",
-                                   lambda book: (folder, os.listdir(folder))):
+                                   lambda: (folder, os.listdir(folder))):
                 self.assertIn(f"{folder}/2026-01-01/site.tar.gz", doctor.put_back())
 
     @unittest.skipUnless(os.geteuid() == 0, "only root has a unit's rights to give away")
@@ -240,22 +240,6 @@ class Free(unittest.TestCase):
                               ["print", "week", "--count", "1", "--to", folder])
             [name] = os.listdir(folder)
         self.assertIn(f"sell none of {folder}/{name} unless", said.getvalue())
-
-    def test_the_doctor_names_those_that_were(self):
-        with tempfile.TemporaryDirectory(dir=MEMORY) as folder:
-            store = Site(folder).store
-            rows = [("a", "default", None, "live"), ("b", "default", 1, "live"),
-                    ("c", "default", None, "withdrawn"), ("d", "w\u00fc", None, "live")]
-            for account, plan, sold, state in rows:
-                store.run(("INSERT INTO login VALUES (?, ?, NULL, 1, ?, 1, 9, 'week-20261127-acdef'"
-                           ", ?, 0, ?, NULL, NULL, NULL)",
-                           (account.encode(), account, plan, state, sold)))
-            [found] = doctor.free_codes(store)
-            # FreeRADIUS' user writes it, and a person gives the cure to a shell of root's.
-            store.run(("UPDATE login SET sheet = 'x; reboot'", ()))
-            self.assertIn("--unsold 'x; reboot'; ", next(doctor.free_codes(store)).cure)
-        self.assertIn("1 codes of week-20261127-acdef log in without a sale", found.text)
-        self.assertIn("withdraw --unsold week-20261127-acdef", found.cure)
 
     def test_a_plan_whose_class_is_no_ascii_is_in_force(self):
         it = packages.packages_of(PACKAGE.replace('"default"', '"w\u00fc"'), MONEY)["week"]

@@ -12,7 +12,7 @@ from unittest import mock
 
 from tool_tests import ROOT
 
-PAGES = ("desk", "guest", "redeem", "operator")
+PAGES = ("desk", "operator")
 # How scripts name a text, and how a page does.
 SAID = re.compile(r'\b(?:text|say|tell|button|named|stop)\("(\w+)"')
 QUOTED = re.compile(r'"(\w+)"|(?:^|[{,]\s*)(\w+):', re.M)
@@ -107,13 +107,13 @@ class Languages(unittest.TestCase):
         del lacks["fr"]["desk"]["title"]
         with mock.patch.object(self.web, "languages", lambda: lacks):
             self.assertRaises(SystemExit, self.web.texts_of, "desk")
-            self.assertIn('"title"', self.web.texts_of("guest"))
+            self.assertIn('"title"', self.web.texts_of("operator"))
 
     def test_no_text_ends_a_script(self):
-        odd = {code: {**it, "guest": {**it["guest"], "title": "</script><b>"}}
+        odd = {code: {**it, "desk": {**it["desk"], "title": "</script><b>"}}
                for code, it in self.found.items()}
         with mock.patch.object(self.web, "languages", lambda: odd):
-            self.assertNotIn("<", self.web.texts_of("guest"))
+            self.assertNotIn("<", self.web.texts_of("desk"))
 
 
 class Parts(unittest.TestCase):

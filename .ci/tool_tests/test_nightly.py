@@ -24,9 +24,9 @@ echo "$1"
 """
 BACKUP = '#!/bin/sh\nmkdir "$2" && echo book >"$2/book"\n'
 SITE = """#!/bin/sh
-case $1 in
-    plans) echo '# plans' ;;
-    save) echo site >"$2" ;;
+case $1$2 in
+    siteplans) echo '# plans' ;;
+    sitesave) echo site >"$3" ;;
 esac
 """
 
@@ -43,7 +43,7 @@ class Night(unittest.TestCase):
         self.write("libexec/radacctd/book-is-there", "#!/bin/sh\n")
         self.write("libexec/radacctd/radacctd", PROGRAM.format(self.folder))
         self.write("sbin/radacctd-backup", BACKUP)
-        self.write("sbin/radacctd-site", SITE)
+        self.write("sbin/radacctl", SITE)
         self.write("radacctd.toml", "# a configuration\n")
 
     def place(self, name):

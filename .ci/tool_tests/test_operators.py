@@ -38,8 +38,7 @@ home_server lobby {
         os.makedirs(self.site.path("radacctd"), exist_ok=True)
         self.site.write("radacctd/access-servers.conf", self.SERVERS)
         for where, name, new in ((lists.sales_log, "FILE", self.site.path("sales.log")),
-                                 (lists.books, "FILE", self.site.path("debits.csv")),
-                                 (lists.stock, "SECOND", self.site.path("vouchers.csv"))):
+                                 (lists.books, "FILE", self.site.path("debits.csv"))):
             patched = mock.patch.object(where, name, new)
             patched.start()
             self.addCleanup(patched.stop)
@@ -219,10 +218,8 @@ home_server lobby {
     def test_withdrawn_codes(self):
         logins.log_ended([b"t-0123456789ab"], logins.WITHDRAWN, NOW)
         logins.log_ended([b"t-0123456789ac"], logins.ENDED, NOW)
-        self.site.write("vouchers.csv", "moment,code,sheet\n1,A,one\n3,B,one\n2,C,two\n")
         found = self.asked(act="codes")["codes"]
-        self.assertEqual([tuple(it.values()) for it in found], [
-            (NOW, "t-0123456789ab", "", 1), (3, "", "one", 2), (2, "", "two", 1)])
+        self.assertEqual([tuple(it.values()) for it in found], [(NOW, "t-0123456789ab", "", 1)])
 
 
 if __name__ == "__main__":

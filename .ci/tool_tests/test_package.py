@@ -22,13 +22,11 @@ ADD_UP = ("SystemCallFilter", "CapabilityBoundingSet")
 # Root's: it works in folders of other users, as these, and looks at their processes.
 ROOTS = {"PrivateUsers", "ProcSubset", "RemoveIPC", "CapabilityBoundingSet", "SystemCallFilter"}
 EXCEPTIONS = {
-    "radacctd-balances-from@.service": ROOTS | {"ProtectHome", "UMask"},
     "radacctd-clerk-work@.service": ROOTS | {"ProtectProc"},
     # It gives systemd an order, reads /proc/stat, and has no right and no network.
     "radacctd-clock.service": {"PrivateUsers", "ProcSubset", "RemoveIPC", "ProtectProc"},
     # A group reads what it writes.
     "radacctd-compare.service": {"UMask"},
-    "radacctd-shards.service": {"UMask"},
     "radacctd-faults.service": ROOTS | {"ProtectProc"},
     "radacctd-forward.service": ROOTS,
     # Everybody reads the counts. FreeRADIUS has the same user: what it shares is not to be removed.
@@ -121,7 +119,7 @@ class Installation(unittest.TestCase):
                     inside = tuple(f"{folder}/" for folder in folders.split())
                     self.assertTrue(it.startswith(inside), path)
                     count += 1
-        self.assertEqual(count, 2)
+        self.assertEqual(count, 1)
 
     def test_a_pairs_tools_are_where_its_units_run_them(self):
         """With each prefix: bin/install writes it into no part of radacctl."""
@@ -137,15 +135,12 @@ class Installation(unittest.TestCase):
 class Purge(unittest.TestCase):
     """It removes the folder of the balances, unless something else is in there."""
 
-    def test_nothing_is_left_that_16_books_write_there(self):
-        unit = text("etc", "shards", "radacctd@.service").replace("%i-\n", "%i-plans.csv\n")
-        names = {f"s7{it}" for it in re.findall(r"%i(\S*[.]csv)", unit)}
-        self.assertEqual(names, {"s7.csv", "s7-plans.csv", "s7-place.csv"})
+    def test_nothing_is_left_that_the_server_writes_there(self):
         with tempfile.TemporaryDirectory() as folder:
             script = text("etc", "package", "postrm").replace("/var/lib", folder)
             balances = f"{folder}/radacctd-balances"
             os.mkdir(balances)
-            for name in (*names, "s7-plans.json", "s7.csv.12new", "plans.csv"):
+            for name in ("balances.csv", "balances.csv.12new", "plans.csv", "plans.json"):
                 with open(f"{balances}/{name}", "w", encoding="ascii"):
                     pass
             script = script.replace("[ -d /run/systemd/system ]", "false")
@@ -154,7 +149,7 @@ class Purge(unittest.TestCase):
 
 
 class Removal(unittest.TestCase):
-    """While nginx, fail2ban or FreeRADIUS has links into the package, nothing is removed."""
+    """While nginx or FreeRADIUS has links into the package, nothing is removed."""
 
     def test_what_would_not_start_again_is_told(self):
         script = text("etc", "package", "prerm").replace("@ALL_UNITS@", "").replace("@UNITS@", "")
@@ -163,15 +158,13 @@ class Removal(unittest.TestCase):
             script = script.replace("/run/systemd", f"{folder}/none")
             script = re.sub(r"/usr/s?bin/", f"{folder}/", script)
             places = {"nginx": ("nginx/radacctd/headers.conf", "nginx/conf.d/radacctd.conf"),
-                      "fail2ban": ("fail2ban/filter.d/radacctd.conf",
-                                   "fail2ban/jail.d/radacctd.conf"),
                       "FreeRADIUS": ("freeradius/3.0/policy.d/radacctd", "freeradius/own")}
             for name in (it for both in places.values() for it in both):
                 os.makedirs(os.path.dirname(os.path.join(folder, "etc", name)), exist_ok=True)
             run = lambda act: subprocess.run(["sh", "-c", script, "prerm", act], text=True,
                                              capture_output=True)
             self.assertEqual(run("remove").returncode, 0)
-            for program, (who, names) in zip(("nginx", "fail2ban-server", "freeradius"),
+            for program, (who, names) in zip(("nginx", "freeradius"),
                                              places.items()):
                 path, own, program = (os.path.join(folder, it) for it in (
                     *(f"etc/{it}" for it in names), program))

@@ -1,7 +1,6 @@
 """Packages and the logins of them: the file, codes, what ends, and the debit of what is left."""
 
 import contextlib
-import grp
 import io
 import json
 import os
@@ -14,11 +13,8 @@ import unittest
 from unittest import mock
 
 from radacctl import debits, files, lapses, logins, money, names, packages, program, site
-from radacctl import stock
 from radacctl.commands import packages as command
-from radacctl.doctor import book
 from radacctl.doctor import packages as doctor
-from radacctl.setup import steps, web
 
 MONEY = money.Money(2, "EUR")
 PACKAGE = '''
@@ -420,47 +416,6 @@ class Places(unittest.TestCase):
                 self.says(self.path(f"uses/{name}"))
                 self.assertEqual(command.uses_made().read("SELECT count(*) FROM use"), [(0,)])
         self.assertEqual([it.args[1:] for it in given.call_args_list], [(7, 8)])
-
-    def test_who_redeems_may_read_the_folder_of_what_ended(self):
-        """What was withdrawn is in it. An earlier version made it for root alone."""
-        folder = self.path("withdrawn")
-        before = os.umask(0o077)
-        try:
-            with mock.patch.object(logins, "LOG", os.path.join(folder, "logins.csv")):
-                for mode in (None, 0o700):
-                    if mode is not None:
-                        os.chmod(folder, mode)
-                    logins.own_log()
-                    self.assertEqual(os.stat(folder).st_mode & 0o777, 0o750)
-        finally:
-            os.umask(before)
-
-    @unittest.skipUnless(os.geteuid() == 0, "only root gives folders away")
-    def test_who_redeems_gets_the_folder_of_what_ended_once_there_is_such_a_user(self):
-        """The timer begins before the set-up makes the user. The doctor and the set-up see it."""
-        folder, group = self.path("withdrawn"), "daemon"
-        number = grp.getgrnam(group).gr_gid
-        step = steps.Folder(folder, 0o750, of_group=group)
-        seen = lambda: [it.name for it in book.mode(folder, 0o750, ("root",), (group,))]
-        self.assertIn(book.CODES[os.path.dirname(stock.SECOND)], [(0o750, ("root",), (
-            site.REDEEM_USER,))])
-        with mock.patch.object(logins, "LOG", os.path.join(folder, "logins.csv")):
-            with mock.patch.object(site, "REDEEM_USER", "nobody-has-this-name"):
-                logins.own_log()
-            self.assertEqual(os.stat(folder).st_gid, 0)
-            self.assertEqual((seen(), step.is_done()), (["mode-wrong"], False))
-            with mock.patch.object(site, "REDEEM_USER", group):
-                logins.own_log()
-            self.assertEqual((os.stat(folder).st_gid, os.stat(folder).st_mode & 0o777),
-                             (number, 0o750))
-            self.assertEqual((seen(), step.is_done()), ([], True))
-
-    def test_the_set_up_gives_who_redeems_both_folders(self):
-        keys = types.SimpleNamespace(keys={"redeem": "a-key-of-16-letters"})
-        found = {it.path: (it.mode, it.group) for it in web.codes(keys)
-                 if isinstance(it, steps.Folder)}
-        wanted = {os.path.dirname(logins.LOG), stock.FOLDER, os.path.dirname(stock.SECOND)}
-        self.assertEqual(found, {it: (0o750, site.REDEEM_USER) for it in wanted})
 
     def test_a_link_in_its_place_leads_nowhere(self):
         os.mkdir(self.path("uses"))

@@ -33,7 +33,6 @@ ROWS = [
     ([(1, b"al@short.example")], {"strip": "yes"}, ("queued", b"al", None)),
     ([(1, b"")], {}, ("filed", None, None)),
     ([(43, b"\0")], {}, ("filed", b"al", None)),
-    ([(25, b"hour")], {}, ("filed", b"al", b"hour")),
     ([(53, bytes([64, 0, 0, 0]))], {}, ("filed", b"al", None)),
     ([(41, bytes([0, 3, 244, 129]))], {"oldest_report": "3"}, ("filed", b"al", None)),
     ([(41, bytes([0, 3, 244, 128]))], {"oldest_report": "3"}, ("queued", b"al", None)),

@@ -3,23 +3,22 @@ what a backup takes for a copy.
 """
 
 import contextlib
+import fcntl
 import os
 import re
 import shutil
 import sqlite3
+import struct
 import subprocess
 import tempfile
 import unittest
 from unittest import mock
 
-from radacctl import shards
-from radacctl.commands import rewrite
 from tool_tests import Folder, ROOT
 
 # What `check` prints and ends with, by the file `fault`, if it is asked for an audit.
 PROGRAM = """#!/bin/sh
 case " $* " in
-    ' export '*) exec cat {0}/balances ;;
     *' --audit '*)
         if [ -s {0}/fault ]; then
             echo 'al: balance 480, vouchers 501'
@@ -46,8 +45,7 @@ class Restore(unittest.TestCase):
         # No process has the book.
         self.write("libexec/radacctd/holders", "#!/bin/sh\n", 0o755)
         self.write("libexec/radacctd/radacctd", PROGRAM.format(self.folder), 0o755)
-        self.write("sbin/radacctl", "#!/bin/sh\nif [ $1 = shards ]; then exec "
-                   f"{ROOT}/etc/tools/radacctl \"$@\"; fi\necho '# plans of the copy'\n", 0o755)
+        self.write("sbin/radacctl", "#!/bin/sh\necho '# plans of the copy'\n", 0o755)
         for name in ("2026-11-26", "2026-11-27.bad", "killed.part", "now"):
             os.mkdir(os.path.join(self.folder, name))
             self.write(f"{name}/book", name)
@@ -107,16 +105,6 @@ class Restore(unittest.TestCase):
         self.write("2026-11-26/book", "2026-11")
         self.assertIn("2026-11-26 lacks book 10 octets", self.restored("2026-11-26")[1])
 
-    def test_a_copy_of_a_version_before_that_lost_its_log(self):
-        """It wrote lengths alone, and copies are kept for a year."""
-        self.write("2026-11-26/sizes", "book 10\nbook-wal 300\n")
-        status, said, book = self.restored("2026-11-26")
-        self.assertEqual((status, book), (1, "now"), said)
-        self.assertIn("2026-11-26 lacks book-wal 300 octets: take another copy", said)
-        for log in (300 * "l", 41 * "l"):
-            self.write("2026-11-26/book-wal", log)
-            self.assertEqual(self.restored("2026-11-26")[::2], (0, "2026-11-26"))
-
     def test_a_copy_that_was_asked(self):
         """sqlite3 puts the log into the file, and removes it: the copy is as sound as before."""
         place = lambda name: os.path.join(self.folder, name)
@@ -156,7 +144,9 @@ class Restore(unittest.TestCase):
     def test_a_program_that_opens_the_book_meanwhile(self):
         """It would serve a file that is no book any more."""
         with open(os.path.join(self.folder, "now/book"), "r+", encoding="ascii") as file:
-            rewrite.lock(file)
+            # The lock that a program has of a book that it has open, where SQLite has it.
+            lock = struct.pack("hhqqi4x", fcntl.F_WRLCK, os.SEEK_SET, 1 << 30, 512, 0)
+            fcntl.fcntl(file, fcntl.F_OFD_SETLK, lock)
             status, said, book = self.restored("2026-11-26")
         self.assertEqual((status, book), (1, "now"), said)
         self.assertIn("a process has opened", said)
@@ -170,25 +160,6 @@ class Restore(unittest.TestCase):
         [kept] = os.listdir(os.path.join(self.folder, "now"))
         self.assertEqual(self.text(f"now/{kept}/book"), "now")
         self.assertIn(f"what was there is in {self.folder}/now/{kept}", self.said)
-
-    def test_a_copy_of_another_one_of_16_books(self):
-        shard = shards.shard_of(b"al")
-        others = [it for it in shards.SHARDS if it != shard]
-        for name, balances, is_taken in (
-            (shard, "al,-5,5\nbo,5,0\n", True), (shard, "al,5,0\n", True),
-            (others[0], "al,5,0\n", False), (others[1], '"a,l",5,0\nradacctd-probe,0,0\n', True),
-            (others[2], "", True), ("now", "al,5,0\n", True),
-        ):
-            with self.subTest(balances, name=name):
-                self.write("balances", "account,balance,overrun\n" + balances)
-                os.makedirs(os.path.join(self.folder, name), exist_ok=True)
-                self.write(f"{name}/book", "now")
-                status, said, book = self.restored("2026-11-26", to=name)
-                wanted = (0, "2026-11-26") if is_taken else (1, "now")
-                self.assertEqual((status, book), wanted, said)
-                self.assertEqual(f"it has no account of {name}" in said, not is_taken)
-                status, _, book = self.restored("--unsound", "2026-11-26", to=name)
-                self.assertEqual((status, book), (0, "2026-11-26"))
 
     def test_the_plans_of_a_configuration(self):
         self.write("config", "# another one\n")

@@ -12,7 +12,7 @@ import unittest
 from unittest import mock
 
 from radacctl import files, freeradius, money as moneys, site as places
-from radacctl.commands import allow, debit, pages, setup, site, voucher
+from radacctl.commands import allow, debit, pages, setup, site
 from radacctl.setup import alone, answers, away, front, pair, proof, sql, steps, web
 import tool_tests
 
@@ -187,11 +187,9 @@ class Site(Folder):
         for text in ("{", "[1]", "5"):
             self.assertRaises(steps.Failed, web.settings, text, self.wanted())
 
-    def test_the_pages_have_the_classes_of_seconds(self):
-        self.write(b'radacctd {\n\ttime_classes = "^(hour|day)$"\n}\n')
-        with mock.patch.object(freeradius, "path", lambda *_: self.path):
-            found = json.loads(web.settings('{"books": ["a"]}', self.wanted()))
-        self.assertEqual((found["time_classes"], found["books"]), ("^(hour|day)$", ["a"]))
+    def test_members_of_a_site_stay_in_the_settings_of_the_pages(self):
+        found = json.loads(web.settings('{"books": ["a"]}', self.wanted()))
+        self.assertEqual(found["books"], ["a"])
 
     def test_a_book_of_a_killed_init_is_made_anew(self):
         with mock.patch.object(places, "BOOK", self.path):
@@ -421,14 +419,13 @@ class Proving(unittest.TestCase):
 class Others(Folder):
     def test_the_pages_settings_are_on_the_disk(self):
         self.write(b"{}")
-        given = ["--plans", self.path, "--to", os.path.join(self.folder, "web")]
-        for count in (3, 0):
+        given = ["--to", os.path.join(self.folder, "web")]
+        for count in (2, 0):
             with mock.patch("os.fsync") as fsync, contextlib.redirect_stdout(io.StringIO()):
                 pages.main(given)
-            # The link, and the file with its name.
+            # The file, and its name.
             self.assertEqual(fsync.call_count, count)
-        self.assertEqual(os.readlink(f"{given[3]}/plans.json"), self.path)
-        self.assertEqual(stat.S_IMODE(os.stat(f"{given[3]}/settings.json").st_mode), 0o644)
+        self.assertEqual(stat.S_IMODE(os.stat(f"{given[1]}/settings.json").st_mode), 0o644)
 
     def test_a_card_outlives_a_power_cut(self):
         with mock.patch("os.fsync") as fsync:
@@ -453,27 +450,6 @@ class Others(Folder):
                 self.assertEqual(file.read(), "*:*:*:*:a\\:b\\\\c\n")
         self.assertFalse(os.path.exists(path))
 
-    def test_a_sheet_outlives_a_power_cut_before_its_codes_are_live(self):
-        done = []
-        for where, name, new in ((voucher.sheets, "money", lambda *_: b"PDF"),
-                                 (voucher.files, "sync_folder", done.append),
-                                 (voucher, "add_to_stock", lambda *_: done.append("stock"))):
-            patched = mock.patch.object(where, name, new)
-            patched.start()
-            self.addCleanup(patched.stop)
-        self.write(b'{"currency": "EUR", "decimals": 2}')
-        with contextlib.redirect_stdout(io.StringIO()):
-            voucher.main(["--stock", f"{self.folder}/stock.csv", "--settings", self.path, "--url",
-                          "https://a.example", "--count", "2", "--sum", "5.00", "--to", self.folder])
-        self.assertEqual(done, [self.folder, self.folder, "stock"])
-
-    def test_only_a_stock_without_a_folder_is_for_the_set_up(self):
-        self.write(b"no stock\n")
-        for path, wanted in ((self.path, False), (f"{self.path}.no/stock.csv", True)):
-            with self.assertRaises(SystemExit), contextlib.redirect_stderr(io.StringIO()) as said:
-                voucher.main(["--stock", path, "--list"])
-            self.assertEqual("radacctl setup" in said.getvalue(), wanted, said.getvalue())
-
     def test_a_list_that_is_no_csv_is_refused(self):
         """With a field that never ends, and with ends of lines of an old Macintosh."""
         for octets in (b'account,sum,number,code\n"' + b"x" * 200_000,
@@ -482,9 +458,6 @@ class Others(Folder):
             wrong = allow.names.WrongFile
             self.assertRaises(wrong, debit.debits_of, self.path)
             self.assertRaises(wrong, allow.rows_of, self.path, "2026-12", 5, moneys.Money())
-            with self.assertRaises(SystemExit), contextlib.redirect_stderr(io.StringIO()) as said:
-                voucher.codes_in(self.path)
-            self.assertIn("Nothing was withdrawn", said.getvalue())
 
 
 if __name__ == "__main__":

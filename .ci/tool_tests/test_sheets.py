@@ -1,4 +1,4 @@
-"""Sheets of printed vouchers, if reportlab and qrencode are there."""
+"""Sheets of codes that log in, if reportlab and qrencode are there."""
 
 import importlib.util
 import os
@@ -9,12 +9,12 @@ import unittest
 from radacctl import program, sheets
 
 HAS_ALL = importlib.util.find_spec("reportlab") and shutil.which("qrencode")
-URL = "https://accounts.example.org/redeem/"
+URL = "https://accounts.example.org/login/"
 
 
 def sheet(count=3, name="Hotel"):
-    codes = [f"ACDEF-HJKMN-PQR{at:02d}" for at in range(count)]
-    return sheets.money(codes, [name, "5.00 EUR", "one", "two"], URL)
+    codes = [(f"ACDEF-HJKMN-PQR{at:02d}", f"t-{at}") for at in range(count)]
+    return sheets.logins(codes, [name, "week", "one", "two", "three"], URL + "?code={code}")
 
 
 class Bars(unittest.TestCase):

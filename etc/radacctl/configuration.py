@@ -23,20 +23,20 @@ Changed = collections.namedtuple("Changed", "gone made fault")
 
 
 @contextlib.contextmanager
-def locked(path, ending=LOCK, patience=PATIENCE, fault=""):
-    """Holds the lock of a configuration, which `radacctl edit` takes for its rename, too.
+def locked(path):
+    """Holds the lock of a configuration.
 
     The service's user may read the configuration, and so could lock that for ever.
     """
     is_held = False
     while not is_held:
         # Others that change the file take their turns meanwhile, and none of them takes a minute.
-        file = open_lock(path + ending)
-        if not until(lambda: files.is_locked(file), patience, 0.02):
-            fail(fault or f"another program has {path} locked: try again", 3)
+        file = open_lock(path + LOCK)
+        if not until(lambda: files.is_locked(file), PATIENCE, 0.02):
+            fail(f"another program has {path} locked: try again", 3)
         # One that another run has removed meanwhile counts for nothing.
         with contextlib.suppress(FileNotFoundError):
-            is_held = os.path.samestat(os.fstat(file.fileno()), os.lstat(path + ending))
+            is_held = os.path.samestat(os.fstat(file.fileno()), os.lstat(path + LOCK))
         if not is_held:
             file.close()
     with file:
@@ -44,7 +44,7 @@ def locked(path, ending=LOCK, patience=PATIENCE, fault=""):
             yield
         finally:
             with contextlib.suppress(OSError):
-                os.remove(path + ending)
+                os.remove(path + LOCK)
 
 
 def open_lock(path):
@@ -113,7 +113,7 @@ def change(path, decide):
         except tomllib.TOMLDecodeError:
             now = {}
         if now.get("key", []) != wanted or {**now, "key": 0} != {**was, "key": 0}:
-            fail(f"the keys of {path} are not written as [[key]]: change them by radacctl edit")
+            fail(f"the keys of {path} are not written as [[key]]: change them by hand")
         fault = put_in_place(path, after, is_needed=bool(block))
     return Changed(list(ended), [it["token"] for it in made], fault)
 

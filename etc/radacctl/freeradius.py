@@ -14,7 +14,6 @@ OURS = {
     "radacctd/logins.pl": "logins.pl",
     "radacctd/attributes": "attributes",
     "radacctd/readers": "readers",
-    "radacctd/kept-sessions": "kept-sessions",
     "radacctd/balances-mirror": "balances-mirror",
     "radacctd/front-counts": "front-counts",
     "mods-enabled/radacctd": "modules",
@@ -22,10 +21,9 @@ OURS = {
     "policy.d/radacctd-devices": "devices",
     "sites-enabled/radacctd": "server",
 }
-# Those that only 16 books and a pair have; and those that a site changes.
-SOME = {"policy.d/radacctd-shards": ("shards", "policy"),
-        "sites-enabled/radacctd-pair": ("pair", "pair-server")}
-SETTINGS = ("settings.conf", "access-servers.conf", "kept")
+# What only a pair has; and those that a site changes.
+SOME = {"sites-enabled/radacctd-pair": ("pair", "pair-server")}
+SETTINGS = ("settings.conf", "access-servers.conf")
 UNITS = ("radacctd-mirror.service", "radacctd-front.service", "radacctd-clock.service",
          "radacctd-clock.timer")
 # What begins a line that a set-up wrote, or made a comment.
@@ -88,7 +86,7 @@ def is_on(block, name):
 
 
 def with_value(text, name, value):
-    """A block in which a name has this value. One of an earlier version lacks some names."""
+    """A block in which a name has this value. A site may have left it out."""
     found = re.search(rf"(?m)^(?:[^#\n]*,)?[ \t]*{name}[ \t]*=[ \t]*({QUOTED}|[^\s,]+)", text)
     if found:
         return text[: found.start(1)] + value + text[found.end(1) :]
@@ -331,7 +329,7 @@ def settings():
     """The values of settings.conf that others look at, each "" if the machine has no such file."""
     block = text("radacctd", "settings.conf")
     return {name: value(block, name) for name in ("address", "port", "from", "secret", "oldest",
-                                                  "queue", "time_classes")}
+                                                  "queue")}
 
 
 @contextlib.contextmanager

@@ -95,7 +95,7 @@ def with_more(text, block):
     return text + ("\n" + block).replace("\n", "\r\n" if text.endswith("\r\n") else "\n")
 
 
-def new_token(prefix):
+def new_token(prefix=""):
     """A key of 113 random bits."""
     return prefix + "-".join(stock.letters(5) for _ in range(5))
 
@@ -118,27 +118,3 @@ def is_guests(members):
 
 def guests(text):
     return [it for it in tables(text) if is_guests(it.members)]
-
-
-def merged(base, now, copy, path):
-    """Gives a copy the changes that the keys of a configuration had since an earlier text of it.
-
-    The copy as it then is, and whether no more than keys differs between both texts. Without the
-    earlier text a key that this tool made is as the configuration has it.
-    """
-    has, had, known = ({it.members.get("token"): it for it in tables(text)}
-                       for text in (now, base, copy))
-    if base:
-        ended = set(had) - set(has)
-        more = [it for token, it in has.items() if token not in had and token not in known]
-    else:
-        ended = {token for token, it in known.items() if it.mark and token not in has}
-        more = [it for token, it in has.items() if it.mark and token not in known]
-    copy = without(copy, ended)
-    for table in more:
-        copy = with_more(copy, table.text.replace("\r\n", "\n"))
-    if any(f'"{token}"' in copy or f"'{token}'" in copy for token in ended):
-        fail(f"{path} has a key that was ended, and not as a [[key]] of its own: remove it")
-    both = [without(text, {*has, *had}).rstrip() for text in (now, base)]
-    same = all(has[it].text == had[it].text for it in set(has) & set(had))
-    return copy, not base or (both[0] == both[1] and same)

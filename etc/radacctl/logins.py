@@ -215,11 +215,8 @@ class Store:
 
 
 def own_log():
-    """The folder of the log of what ended, for root and the user who redeems.
-
-    The timer may make it before that user is there: then no printed voucher would be redeemed.
-    """
-    files.make_folder(os.path.dirname(LOG), site.REDEEM_USER)
+    """The folder of the log of what ended, for root."""
+    files.make_folder(os.path.dirname(LOG))
 
 
 def give_folder(path):

@@ -3,29 +3,29 @@
 import importlib
 import os
 import sys
+import types
 
+from radacctd_site.core import cli, features
 from radacctl import program, site
 
-# Each command, what it does, and its older name.
+# Each command, and what it does.
 COMMANDS = {
-    "setup": ("sets a site up, or completes it", None),
-    "doctor": ("says what is wrong with a site, and what to do", None),
-    "edit": ("changes the configuration in an editor", "radacctd-edit"),
-    "key": ("makes, ends and lists guests' keys", "radacctd-key"),
-    "sell": ("credits a file of vouchers", "radacctd-sell"),
-    "debit": ("takes money from an account, once", "radacctd-debit"),
-    "voucher": ("makes, lists and withdraws printed vouchers", "radacctd-vouchers"),
-    "redeem": ("redeems a printed voucher, for the web server", "radacctd-redeem"),
-    "packages": ("prints, sells and ends codes that log in", None),
-    "guest": ("makes a guest's login, page and card, and ends them", None),
-    "allow": ("credits each account of a list once a month", None),
-    "report": ("reports a day or a month", "radacctd-report"),
-    "night": ("copies the site for the night", "radacctd-nightly"),
-    "site": ("copies what a site has besides the book", "radacctd-site"),
-    "rewrite": ("makes the file of a book small", "radacctd-rewrite"),
-    "pages": ("makes the folder that the pages read", "radacctd-pages"),
-    "shards": ("works with 16 books", "radacctd-shards"),
+    "setup": "sets a site up, or completes it",
+    "doctor": "says what is wrong with a site, and what to do",
+    "key": "makes, ends and lists guests' keys",
+    "sell": "credits a file of vouchers",
+    "debit": "takes money from an account, once",
+    "packages": "prints, sells and ends codes that log in",
+    "guest": "makes a guest's login, page and card, and ends them",
+    "allow": "credits each account of a list once a month",
+    "report": "reports a day or a month",
+    "night": "copies the site for the night",
+    "site": "copies what a site has besides the book",
+    "pages": "makes the folder that the pages read",
 }
+# Those of the kit's features.
+KIT = {name: text for name, (text, _) in features.commands().items()}
+COMMANDS = {**COMMANDS, **KIT}
 # What nginx and systemd start for the front desk's page, by links of these names.
 PARTS = {"clerk-page": "radacctl.clerk.page", "clerk-work": "radacctl.clerk.work"}
 # These are programs of their own.
@@ -42,15 +42,11 @@ The status is 0 if all was done, and 2 for a bad command line.
 
 
 def listed():
-    return "\n".join(f"  {name:9} {text}" for name, (text, _) in COMMANDS.items())
+    return "\n".join(f"  {name:9} {text}" for name, text in COMMANDS.items())
 
 
-def command_of(called, words):
-    """The command, and its arguments: an older name of the program is its command."""
-    older = {old: name for name, (_, old) in COMMANDS.items() if old}
-    if called in older:
-        program.NAME = called
-        return older[called], words
+def command_of(words):
+    """The command, and its arguments."""
     if words[:1] in (["--help"], ["-h"], ["help"]):
         print(HELP.format(listed()), end="")
         sys.exit(0)
@@ -66,11 +62,13 @@ def main(path):
     called = os.path.basename(sys.argv[0])
     if called in PARTS:
         program.NAME = called
-        return importlib.import_module(PARTS[called]).main()
-    command, words = command_of(called, sys.argv[1:])
+        return run(importlib.import_module(PARTS[called]), sys.argv[1:])
+    command, words = command_of(sys.argv[1:])
     if command in SCRIPTS:
         script = os.path.join(os.path.dirname(os.path.realpath(path)), SCRIPTS[command])
         os.execv(script, [script, *words])
+    if command in KIT:
+        return run(types.SimpleNamespace(main=lambda words: cli.main(command, words)), words)
     return run(importlib.import_module(f"radacctl.commands.{command}"), words)
 
 

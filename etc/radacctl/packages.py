@@ -12,7 +12,7 @@ import time
 import tomllib
 
 from radacctl import files, money as moneys, names, plans, program
-from radacctl.money import Wrong
+from radacctd_site.core.money import Wrong
 
 FILE = "/etc/radacctd-packages/packages.toml"
 # What the front desk's page reads of it.

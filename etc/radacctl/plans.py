@@ -50,7 +50,3 @@ def in_config(config):
                 for it in config.get("plan", [])}
     except (AttributeError, KeyError, TypeError):
         raise ValueError("its plans are no [[plan]] with class, block and unit") from None
-
-
-def shown(plan):
-    return "block {}, unit {}, count {}".format(*plan)

@@ -8,7 +8,9 @@ import signal
 import sys
 import time
 
-# As the caller spelled it, `radacctl sell`, or an older name.
+from radacctd_site.core import Failed, told
+
+# As the caller spelled it: `radacctl sell`.
 NAME = "radacctl"
 # In what a command line may have: an option and its value, several, or one that is needed (!); an
 # argument, which may be left out, or be several.
@@ -16,23 +18,6 @@ WORDS = re.compile(r"--([a-z-]+)(?: ([A-Z][A-Z-]*(?:\.[A-Z]+)*)(\.\.)?(!)?)?|"
                    r"(\[)?([A-Za-z]+)(\.\.)?\]?")
 # What separates the lines of a longer text, and what is on them.
 LINES = "\n\t"
-
-
-class Failed(Exception):
-    """Why not all was done. Whoever gave the command is told so, and it ends with the status."""
-
-    status = 1
-
-
-@contextlib.contextmanager
-def told(kind, before, *faults, after=""):
-    """Raises a fault of a kind in the place of some, or ends by `fail`: what could not be done, and
-    the reason that they give.
-    """
-    try:
-        yield
-    except faults or OSError as why:
-        raise kind(f"{before}{getattr(why, 'strerror', None) or why}{after}") from None
 
 
 class Late(Exception):

@@ -7,7 +7,7 @@ import re
 import time
 
 from radacctl import program, site
-from radacctl.desk import ask
+from radacctd_site.core.desk import ask
 from radacctl.program import say
 
 

@@ -1,4 +1,4 @@
-"""Draws sheets of printed vouchers as PDF, by reportlab and qrencode.
+"""Draws sheets of codes that log in as PDF, by reportlab and qrencode.
 
 A text of Windows-1252 is in the fonts that each reader has. Other letters, Polish or Japanese ones
 say, are in fonts of Debian, of which the file then has a part. Letters that are joined or written
@@ -116,17 +116,9 @@ def draw(canvas, fonts, x, y, lines, link):
     canvas.drawPath(path, stroke=0, fill=1)
 
 
-def money(codes, texts, url):
-    """A PDF of vouchers of money."""
-    # Of each line of a voucher: font, size, how far down, text.
-    head = [(BOLD, 11, 16, texts[0]), (BOLD, 15, 34, texts[1])]
-    plain = zip((66, 76, 86), (url.removeprefix("https://"), *texts[2:]))
-    foot = [(PLAIN, 7, down, text) for down, text in plain]
-    return sheet(texts[0], [([*head, (CODE, 10, 52, it), *foot], f"{url}#c={it}") for it in codes])
-
-
 def logins(codes, texts, link):
     """A PDF of codes that log in, by their accounts. In a link {code} stands for the code."""
+    # Of each line of a voucher: font, size, how far down, text.
     head = [(BOLD, 11, 15, texts[0]), (BOLD, 11, 29, texts[1])]
     small = [(BOLD, 6.5, *it) for it in zip((57, 66, 75), texts[2:])]
     return sheet(texts[1], [

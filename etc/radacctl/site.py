@@ -20,8 +20,8 @@ RADDB = "/etc/freeradius/3.0"
 RADACCT = "/var/log/freeradius/radacct"
 # The users and groups of the service, of FreeRADIUS, of nginx, and of who reads balances.
 USER, RADIUS_USER, WEB_USER, READERS = "radacctd", "freerad", "www-data", "radacctd-balances"
-# The user who redeems printed vouchers, and the file of its cashier's key.
-REDEEM_USER, REDEEM_KEY = "radacctd-redeem", "/etc/radacctd-redeem.key"
+# The file of the cashier's key of the pages' service.
+SITE_KEY = "/etc/radacctd-site.key"
 
 HERE = os.path.dirname(os.path.realpath(__file__))
 # This package is in libexec/radacctd, with the programs that it runs; or in etc of the repository.

@@ -1,73 +1,26 @@
-"""The stock of printed vouchers: which codes are live, which are withdrawn, and who got one.
+"""Logs that only grow, each by one run at a time, and codes.
 
-In the stock's folder are
-
-    stock.csv         code,sum,sheet: root writes it
-    withdrawn.csv     moment,code,sheet: root adds to it. What is in it cannot be redeemed.
-    given/given.csv   moment,event,code,account,desks: radacctd-redeem adds to it
-
-A second log of what is withdrawn lies in another folder, so it outlives a restored stock. Lines are
-only added, each on the disk before it counts; a last line without its end was never counted.
+Lines are only added, each on the disk before it counts; a last line without its end was never
+counted.
 """
 
-import collections
 import contextlib
 import csv
 import errno
 import fcntl
 import io
 import os
-import re
-import secrets
 import time
-import zlib
 
+from radacctd_site.core.codes import letters, new as new_code
 from radacctl import files, names, program
 
-FOLDER = "/var/lib/radacctd-vouchers"
-SECOND = "/var/lib/radacctd-withdrawn/withdrawn.csv"
-# No letter or digit that looks like another one: 23 of them. A code has 14, which are 63 bits.
-LETTERS, GROUP, RANDOM = "ACDEFHJKMNPQRTUWXY34679", 5, 14
-CODE = re.compile(f"[{LETTERS}]{{15}}")
-STOCK_HEADER = b"code,sum,sheet\n"
-WITHDRAWN_HEADER = b"moment,code,sheet\n"
-GIVEN_HEADER = b"moment,event,code,account,desks\n"
-# A code is for an account from now on; a desk took it; or a desk refused it, so it is free again.
-GIVEN, TAKEN, REFUSED = "given", "taken", "refused"
-EVENT = re.compile("given|taken|refused")
 # How long another run is waited for, in seconds, and how large a file may be.
 PATIENCE, LARGEST = 20, 1 << 28
 
-# For whom a code is, where it goes, and which desks took it.
-State = collections.namedtuple("State", "account desks taken")
-FREE = State(None, (), frozenset())
-
 
 class Fault(program.Failed):
-    """Why the stock cannot be used. It names no code and no key."""
-
-
-def check_letter(code):
-    """The letter that makes one wrong letter, or two in the wrong order, a wrong code."""
-    return LETTERS[sum(at * LETTERS.index(it) for at, it in enumerate(code, 1)) % len(LETTERS)]
-
-
-def letters(count):
-    """Letters by chance, as keys and passwords have them."""
-    return "".join(secrets.choice(LETTERS) for _ in range(count)).lower()
-
-
-def new_code():
-    code = letters(RANDOM).upper()
-    return code_of(code + check_letter(code))
-
-
-def code_of(text):
-    """A code as the stock has it, or None if the text is none."""
-    code = re.sub("[ -]", "", text.upper())
-    if not CODE.fullmatch(code) or check_letter(code[:-1]) != code[-1]:
-        return None
-    return "-".join(code[at : at + GROUP] for at in range(0, len(code), GROUP))
+    """Why a log cannot be used."""
 
 
 def whole_lines(path, header):
@@ -97,31 +50,6 @@ def rows_in(path, header):
     return [list(map(names.text_of_cell, it)) for it in rows if len(it) == header.count(b",") + 1]
 
 
-def worth(path, code):
-    """What the stock says that a code is worth, or None."""
-    text = b"\n" + whole_lines(path, STOCK_HEADER)
-    found = next(lines_with(text, b"\n%s," % code.encode()), b",").split(b",")
-    return int(found[1]) if re.fullmatch(b"[0-9]{1,13}", found[1]) else None
-
-
-def lines_with(text, mark):
-    """The lines of a text that have a mark. It is sought as octets: a stock may be long."""
-    at = 0
-    while (at := text.find(mark, at)) >= 0:
-        begin, end = text.rfind(b"\n", 0, at + 1) + 1, text.find(b"\n", at + 1)
-        yield text[begin : end if end >= 0 else len(text)]
-        at += len(mark)
-
-
-def is_withdrawn(paths, code):
-    return any(b",%s," % code.encode() in whole_lines(it, WITHDRAWN_HEADER) for it in paths)
-
-
-def withdrawn_in(path):
-    """The moment and the sheet of each code of a log."""
-    return {code: (moment, sheet) for moment, code, sheet in rows_in(path, WITHDRAWN_HEADER)}
-
-
 def lines_of(rows):
     """Rows as lines of a CSV file for people."""
     file = io.StringIO()
@@ -132,9 +60,7 @@ def lines_of(rows):
 
 @contextlib.contextmanager
 def locked(path, patience=PATIENCE, way=os.O_RDONLY | os.O_DIRECTORY):
-    """A file or a folder that one run has at a time, as that of the stock: to change what is in it,
-    or to give a code.
-    """
+    """A file or a folder that one run has at a time, to change what is in it."""
     with program.told(Fault, f"cannot open {path}: "):
         handle = os.open(path, way | os.O_CLOEXEC, 0o600)
     try:
@@ -216,61 +142,3 @@ def add_rows(path, header, rows):
     """Adds rows to a log; they are on the disk, or it is a fault."""
     with contextlib.closing(Log(path, header)) as log:
         log.add(lines_of(rows))
-
-
-def events_in(text, code=None):
-    """The events of all codes or of one: event, code, account and desks. What is none is left out:
-    the user who redeems can write what they like.
-    """
-    if code is not None:
-        text = b"\n".join(lines_with(text, b",%s," % code.encode()))
-    lines = text.decode("ascii", "replace").split("\n")
-    for row in csv.reader(it for it in lines if it.isprintable()):
-        if len(row) == 5 and EVENT.fullmatch(row[1]) and code_of(row[2]) == row[2]:
-            yield [names.text_of_cell(it) for it in row[1:]]
-
-
-def after(state, event, account, desks):
-    """The state of a code after an event."""
-    if event == GIVEN and state.account is None:
-        return State(account, tuple(desks.split()), frozenset())
-    if event == TAKEN and state.account == account:
-        return state._replace(taken=state.taken | {desks})
-    if event == REFUSED and not state.taken:
-        return FREE
-    return state
-
-
-def states_in(path):
-    """The state of each code that was given to anybody."""
-    found = {}
-    for event, code, account, desks in events_in(whole_lines(path, GIVEN_HEADER)):
-        found[code] = after(found.get(code, FREE), event, account, desks)
-    return {code: it for code, it in found.items() if it.account is not None}
-
-
-class Given(Log):
-    """What radacctd-redeem adds to. A code has one request at a time."""
-
-    def __init__(self, path):
-        super().__init__(path, GIVEN_HEADER)
-
-    @contextlib.contextmanager
-    def turn(self, code, patience=PATIENCE):
-        """The right to a code. Behind the end of the file an octet stands for it."""
-        place = (1 << 40) + zlib.crc32(code.encode())
-        wait_for(self.handle, self.path, patience, fcntl.lockf, 1, place)
-        try:
-            yield
-        finally:
-            fcntl.lockf(self.handle, fcntl.LOCK_UN, 1, place)
-
-    def state(self, code):
-        state = FREE
-        for event, _, account, desks in events_in(self.text(), code):
-            state = after(state, event, account, desks)
-        return state
-
-    def note(self, event, code, account, desks):
-        """Adds an event; the folder of the stock is locked, so that none is withdrawn meanwhile."""
-        self.add(lines_of([[int(time.time()), event, code, account, desks]]))

@@ -98,17 +98,12 @@ def corrections(begin, end):
 
 
 def codes():
-    """Codes that log in and sheets of vouchers that were withdrawn, the newest first."""
+    """Codes that log in and were withdrawn, the newest first."""
     sheets = dict(sold.store().read("SELECT account, sheet FROM login WHERE digest IS NOT NULL"))
     found = []
     for moment, account, state in stock.rows_in(logins.LOG, logins.LOG_HEADER):
         if state == logins.WITHDRAWN and moment.isdigit():
             found.append((int(moment), account, sheets.get(names.octets_of(account), ""), 1))
-    vouchers = {}
-    for moment, sheet in stock.withdrawn_in(stock.SECOND).values():
-        had = vouchers.setdefault(sheet, [0, 0])
-        had[0], had[1] = max(had[0], int(moment) if moment.isdigit() else 0), had[1] + 1
-    found += [(moment, "", sheet, count) for sheet, (moment, count) in vouchers.items()]
     return [dict(zip(("moment", "account", "sheet", "count"), it))
             for it in sorted(found, reverse=True)]
 

@@ -72,7 +72,7 @@ def handed_on(who, octets):
         raise Refused(503, "away") from None
 
 
-def main():
+def main(_words=()):
     try:
         status, body = handed_on(cashier(), request())
     except Refused as found:

@@ -5,7 +5,7 @@ whose members docs/CLERK.md has. Each change counts at once. Without it nobody m
 import tomllib
 
 from radacctl import files, program
-from radacctl.money import Wrong
+from radacctd_site.core.money import Wrong
 
 FILE = "/etc/radacctd-clerk/rights.toml"
 GUESTS, CORRECTIONS, OPERATORS = "guests", "corrections", "operators"

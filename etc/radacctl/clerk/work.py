@@ -349,7 +349,7 @@ def hang_up():
         caller.shutdown(socket.SHUT_RDWR)
 
 
-def main():
+def main(_words=()):
     os.umask(0o077)
     # What a command prints is for a terminal: here it would get into the answer.
     out = os.dup(1)

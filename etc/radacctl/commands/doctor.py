@@ -3,9 +3,9 @@
     radacctl doctor [--only NAME..] [--quiet] [--counts FILE]
     radacctl doctor --list
 
-It looks at what this machine has: radacctd alone, behind FreeRADIUS, with pages, one of a pair,
-some of 16 books. It changes nothing. It sends nothing to radacctd or FreeRADIUS, and asks nginx for
-its pages. Run it as root.
+It looks at what this machine has: radacctd alone, behind FreeRADIUS, with pages, one of a pair. It
+changes nothing. It sends nothing to radacctd or FreeRADIUS, and asks nginx for its pages. Run it as
+root.
 
 A line is `critical NAME: WHAT. Do: CURE` or `warning NAME: WHAT. Do: CURE`. --list prints each NAME
 that it knows, with its meaning. --only shows faults of these names alone. --quiet prints nothing

@@ -147,7 +147,7 @@ def make(logins_store, words, name, package, site_money, url, card=None, note=la
     """
     account = new_account(name, logins_store, words.config)
     guest = {"step": BEGUN, "name": name, "card": card,
-             "token": keys.new_token("") if url else None, "sum": package.credit}
+             "token": keys.new_token() if url else None, "sum": package.credit}
     password = f"{stock.letters(5)}-{stock.letters(5)}"
     note(account)
     keep_draft(account, guest)
@@ -202,7 +202,7 @@ def write_card(account, password, package, site_money, guest, url):
 def codes_of(wifi, account, password, token, url):
     """What the QR codes of a card say: the network, and the guest's page."""
     return [*([wifi_text(wifi, account, password)] if wifi else []),
-            *([f"{url}/#k={token}"] if token else [])]
+            *([f"{url}/?k={token}"] if token else [])]
 
 
 def wifi_text(wifi, account, password):

@@ -13,15 +13,14 @@ one for a room: the next guest would inherit the balance and see the former gues
 `revoke` ends each key of an account, or one key: at check-out. `expire` ends those whose time is
 over; radacctd-key.timer gives it each hour. `list` prints each guest's key by its first letters.
 
-Neither a plan that waits nor a copy that radacctd-edit left hinders it. It locks FILE.lock for a
-moment, which only root may open, changes the keys and nothing else, and renames the new file into
-place. Many at once wait for each other. Then it asks the desk of the server that has this
-configuration, until that knows the key, or no longer does. Only a server of root's or of the
-service's user is asked. If none runs, it says so: the next start reads the file.
+A plan that waits does not hinder it. It locks FILE.lock for a moment, which only root may open, changes
+the keys and nothing else, and renames the new file into place. Many at once wait for each other.
+Then it asks the desk of the server that has this configuration, until that knows the key, or no
+longer does. Only a server of root's or of the service's user is asked. If none runs, it says so:
+the next start reads the file.
 
 Options: --config FILE (/etc/radacctd.toml); --wait SECONDS, how long it asks the server (10); --url
-URL, the address of the guest's page, else the member `url` of /etc/radacctd-web/settings.json;
---prefix TEXT, how each key begins: its shard (`s1-`). --db and --log are taken, and do nothing.
+URL, the address of the guest's page, else the member `url` of /etc/radacctd-web/settings.json.
 
 It ends with 0 if the keys are as asked, with 1 if nothing was changed, with 2 for a bad command
 line, with 3 if another program had the configuration locked for a minute, and with 4 if the
@@ -52,7 +51,7 @@ def card(words, account, token, until):
     url = cards.address(words.url)
     if not url:
         fail("a card needs the address of the guest's page: --url https://accounts.example.org")
-    code = cards.svg(f"{url}/#k={token}")
+    code = cards.svg(f"{url}/?k={token}")
     until = f"<br>until / bis {until:%Y-%m-%d %H:%M}" if until else ""
     body = CARD.format(name=html.escape(cards.house()), code=code, url=html.escape(url),
                        token=token, account=html.escape(account), until=until)
@@ -67,8 +66,7 @@ def new(words):
 
     def decide(_, config):
         if keys.is_full(config):
-            fail(f"{keys.MOST_KEYS} keys are all that fit: end some, or set up 16 books "
-                 "(docs/SHARDS.md)")
+            fail(f"{keys.MOST_KEYS} keys are all that fit: end some")
         has = [names.octets_of(it["account"]) for it in config.get("key", [])
                if keys.is_guests(it)]
         if names.octets_of(account) in has and not words.again:
@@ -81,7 +79,7 @@ def new(words):
     until = None
     if words.days is not None:
         until = (now + datetime.timedelta(days=words.days)).replace(hour=12, minute=0)
-    token = keys.new_token(words.prefix)
+    token = keys.new_token()
     if words.card:
         files.make_named(words.card, card(words, account, token, until).encode())
     try:
@@ -142,8 +140,8 @@ def show(words):
 
 
 def parser():
-    it = program.parser(__doc__, "--config CONFIG --db DB --log LOG --url URL --wait WAIT "
-                        "--prefix PREFIX", config=site.CONFIG, wait=10, prefix="")
+    it = program.parser(__doc__, "--config CONFIG --url URL --wait WAIT",
+                        config=site.CONFIG, wait=10)
     acts = program.acts(it, {"new": "account --days DAYS --card FILE --again", "revoke": "",
                              "expire": "", "list": ""}, days=int)
     acts["revoke"].add_argument("account", metavar="ACCOUNT | KEY")
@@ -153,8 +151,6 @@ def parser():
 def main(words):
     it = parser()
     words = it.parse_args(words)
-    if not re.fullmatch("[A-Za-z0-9-]{0,8}", words.prefix):
-        it.error("a prefix is at most 8 of A-Z a-z 0-9 -")
     if getattr(words, "days", None) is not None and not 0 < words.days <= 3660:
         it.error("--days takes 1 to 3660")
     words.config = os.path.realpath(words.config)

@@ -245,7 +245,7 @@ def credit(words, logins_store, found, known):
             "credited for them")
     new = [it for it in found if outcomes.get(names.shown(it.account)) == "new"]
     program.show(f"price {money.shown(sum(it.price for it in new))}")
-    status = sells.report(outcomes, {}, {"": stop} if stop else {})
+    status = sells.report(outcomes, {}, stop)
     twice = sold_twice(new)
     return status or twice
 

@@ -22,7 +22,7 @@ for a formula has an apostrophe before it.
 LOG is nginx' log of sales, /var/log/nginx/radacctd-sales.log, whose older parts are read, too. It
 says which cashier sold a voucher. Of guests' logins the journal of the front desk says it.
 
-Sessions of the Class CLASS, `debit` unless given, are money that radacctd-debit took, and no usage.
+Sessions of the Class CLASS, `debit` unless given, are money that radacctl debit took, and no usage.
 A line, into which `radacctd forward` carried sessions, is no session and no usage. The sessions are
 `carried`, and no money moved. Another session or voucher of the first export that is not in the
 second is `gone`: its money is shown apart. N accounts are shown, 20 unless given, those that used

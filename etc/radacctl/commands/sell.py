@@ -155,19 +155,14 @@ def tell(lines):
         program.say(f"if the book has such an account, give --known {site.BALANCES}")
 
 
-def parts_of(vouchers, book_of, refused):
-    """The first record of each number, by its book, and the later ones, which are sent after all of
-    these: so the first one in the file is the one that counts. Of another book they are refused,
-    since both would credit the number.
+def parts_of(vouchers):
+    """The first record of each number, and the later ones, which are sent after all of these: so
+    the first one in the file is the one that counts.
     """
-    seen, firsts, later = {}, collections.defaultdict(list), collections.defaultdict(list)
+    seen, firsts, later = set(), [], []
     for record in vouchers:
-        book = book_of(record.account)
-        if seen.get(record.voucher, book) != book:
-            refused[record.number] = CAUSES[desks.DIFFERS]
-        else:
-            (later if record.voucher in seen else firsts)[book].append(record)
-        seen.setdefault(record.voucher, book)
+        (later if record.voucher in seen else firsts).append(record)
+        seen.add(record.voucher)
     return firsts, later
 
 
@@ -226,38 +221,36 @@ def judged(found, status, body):
 
 
 class Sale:
-    """The vouchers that are to be sent to the desk of each book, and what came of each."""
+    """The vouchers that are to be sent to the desk, and what came of each."""
 
-    def __init__(self, desks, total):
-        self.desks, self.total = desks, total
+    def __init__(self, desk, total):
+        self.desk, self.total = desk, total
         self.lock = threading.Lock()
-        self.outcomes, self.stops, self.began = {}, {}, time.monotonic()
+        self.outcomes, self.stop, self.began = {}, None, time.monotonic()
 
-    def take(self, book, waiting):
+    def take(self, waiting):
         """The work of one sender."""
         while True:
             with self.lock:
-                if book in self.stops or not waiting:
+                if self.stop or not waiting:
                     return
                 record = waiting.popleft()
             try:
-                outcome = self.desks[book].outcome(*record[1:])
+                outcome = self.desk.outcome(*record[1:])
             except Exception as why:
                 # As of a host that is misspelled: that nothing is sent is said, whatever it was.
                 stop = why if isinstance(why, Stop) else Stop(type(why).__name__, str(why))
                 with self.lock:
-                    self.stops.setdefault(book, stop)
+                    self.stop = self.stop or stop
                 return
             with self.lock:
                 self.outcomes[record.number] = outcome
 
-    def send(self, parts, senders):
-        """Sends the vouchers of each book by so many senders, and shows how far it is."""
-        work = []
-        for book, part in parts.items():
-            waiting = collections.deque(part)
-            work += [threading.Thread(target=self.take, args=(book, waiting), daemon=True)
-                     for _ in range(senders)]
+    def send(self, vouchers, senders):
+        """Sends vouchers by so many senders, and shows how far it is."""
+        waiting = collections.deque(vouchers)
+        work = [threading.Thread(target=self.take, args=(waiting,), daemon=True)
+                for _ in range(senders)]
         for thread in work:
             thread.start()
         shown_at = time.monotonic()
@@ -277,30 +270,30 @@ class Sale:
         program.say(f"{done} of {self.total}: {counts}, {done / seconds:.0f}/s")
 
 
-def report(outcomes, refused, stops):
+def report(outcomes, refused, stop):
     """Prints the report of an import, and returns the status to end with."""
     found = collections.Counter(outcomes.values())
     causes = {number: it for number, it in outcomes.items() if it not in ("new", "repeat")}
     causes |= refused
     print(f"added {found['new']}, repeated {found['repeat']}, refused {len(causes)}")
-    return end_of_report(causes, stops)
+    return end_of_report(causes, stop)
 
 
-def end_of_report(causes, stops):
-    """Prints what was refused, and why it ended early, by the books; the status to end with."""
+def end_of_report(causes, stop):
+    """Prints what was refused, and why it ended early; the status to end with."""
     for number in sorted(causes):
         print(f"{number}: {causes[number]}")
-    for book, stop in stops.items():
-        print(f"{book}: " * bool(book) + f"stopped: {stop}", flush=True)
-        if stop.line:
-            program.say(stop.line)
-    status = max((it.status for it in stops.values()), default=1 if causes else 0)
-    if status == 3:
+    if not stop:
+        return 1 if causes else 0
+    print(f"stopped: {stop}", flush=True)
+    if stop.line:
+        program.say(stop.line)
+    if stop.status == 3:
         program.say("give the same file again: nothing is credited twice")
-    return status
+    return stop.status
 
 
-def dry_run(vouchers, refused, stops):
+def dry_run(vouchers, refused, stop):
     """Prints what the file is, as far as it can be known without the book."""
     first = {}
     for record in vouchers:
@@ -309,7 +302,7 @@ def dry_run(vouchers, refused, stops):
             refused[record.number] = "VoucherDiffers"
     total = sum(it.sum for it in first.values())
     print(f"vouchers {len(first)}, of {total} together, refused {len(refused)}")
-    return end_of_report(refused, stops)
+    return end_of_report(refused, stop)
 
 
 def print_logged(words):
@@ -362,14 +355,9 @@ def parser():
 
 def main(words):
     words = parser().parse_args(words)
-    return sell(words, {"": (words.host, words.port)}, lambda account: "")
-
-
-def sell(words, places, book_of):
-    """Sells a file at the desk of each account's book: the places of these by the books' names."""
     if words.logged:
         return print_logged(words)
-    key = None if words.dry_run else key_of(words)
+    desk = None if words.dry_run else desk_of(words)
     known = known_in(words.known)
     if sys.stdin.isatty():
         program.fail(f"give a file of vouchers: {program.NAME} < vouchers.csv")
@@ -377,13 +365,13 @@ def sell(words, places, book_of):
     try:
         vouchers, refused, said, is_cut = read(octets, known)
     except Stop as stop:
-        return report({}, {}, {"": stop})
-    stops = {"": Stop("TooMany")} if is_cut else {}
+        return report({}, {}, stop)
+    stop = Stop("TooMany") if is_cut else None
     tell(said)
-    firsts, later = parts_of(vouchers, book_of, refused)
     if words.dry_run:
-        return dry_run(vouchers, refused, stops)
-    sale = Sale({book: Desk(it, key, words.give_up) for book, it in places.items()}, len(vouchers))
+        return dry_run(vouchers, refused, stop)
+    firsts, later = parts_of(vouchers)
+    sale = Sale(desk, len(vouchers))
     sale.send(firsts, words.in_flight)
     sale.send(later, 1)
-    return report(sale.outcomes, refused, stops | sale.stops)
+    return report(sale.outcomes, refused, sale.stop or stop)

@@ -32,9 +32,10 @@ import os
 import shutil
 import sys
 
+from radacctd_site.core import features
 from radacctl import files, program, site
 from radacctl.commands import doctor
-from radacctl.doctor import copies, kind
+from radacctl.doctor import copies
 from radacctl.setup import alone, answers, away, devices, front, pair, proof, sql, steps, web
 
 SAMPLE = """\
@@ -48,7 +49,6 @@ cashiers = ["anna", "ben"]
 # desk_guests = ["anna"]            # cashiers who may make guests at the page, and end them
 # desk_corrections = ["anna"]       # cashiers who may take sales back
 # operators = ["anna"]              # cashiers who have the page /operator/, too
-front_desk = ["10.0.1.0/24"]        # never shut out, however often a password is mistyped
 # certificate = "/etc/letsencrypt/live/accounts.example.org/fullchain.pem"
 # certificate_key = "/etc/letsencrypt/live/accounts.example.org/privkey.pem"
 
@@ -92,7 +92,8 @@ def parser():
 
 def packages_of(wanted):
     parts = [(wanted.has_front, front.PACKAGES), (wanted.sql, sql.PACKAGES),
-             (wanted.host, web.PACKAGES), (wanted.has_codes, web.CODES),
+             (wanted.host, web.PACKAGES + features.listed("PACKAGES")),
+             (wanted.has_packages, web.SHEETS),
              (wanted.has_clerk, web.CLERK_PACKAGES)]
     return [*dict.fromkeys(it for is_wanted, found in parts if is_wanted for it in found)]
 
@@ -207,9 +208,6 @@ def main(words):
     # A copy of FreeRADIUS' folder, secrets and all, that a killed run left.
     shutil.rmtree(steps.TRIAL, ignore_errors=True)
     try:
-        if os.path.exists(kind.TABLE):
-            raise steps.Failed(f"{kind.TABLE} is there: what 16 books need in FreeRADIUS and nginx "
-                               "is put there, and taken out, by hand: SHARDS.md")
         remove(words) if words.remove else do(words, wanted)
     except (steps.Failed, site.Missing, OSError) as why:
         program.say(f"{program.reason(why)}\nWhat is done stays. Mend it, and give the same again.")

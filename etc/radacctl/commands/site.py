@@ -7,10 +7,10 @@
     radacctl site plans BOOK [CONFIG]
 
 `save` writes an archive, for its owner alone, and reads it back before it has its name:
-configurations, keys and secrets, the stock of printed vouchers and what was withdrawn, the journals
-of debits, the outbox of a pair, the settings of the pages, the folders of FreeRADIUS and nginx with
-the certificates that they name, units and defaults of radacctd, reports that FreeRADIUS has filed,
-and the log of sales. RADACCTD_ALSO names further files and folders. radacctd-nightly gives it.
+configurations, keys and secrets, site.db, what was withdrawn, the journals of debits, the outbox of
+a pair, the settings of the pages, the folders of FreeRADIUS and nginx with the certificates that
+they name, units and defaults of radacctd, reports that FreeRADIUS has filed, and the log of sales.
+RADACCTD_ALSO names further files and folders. radacctd-nightly gives it.
 
 `test` reads an archive and compares each file with its digest. `packages` prints the packages that
 such a site had, and `units` the units that were enabled. `restore` puts each file back with its
@@ -34,7 +34,8 @@ import re
 import time
 import tomllib
 
-from radacctl import archive, files, freeradius, logins, plans, program, site, stock
+from radacctd_site.core import features
+from radacctl import archive, files, freeradius, logins, plans, program, site
 from radacctl.doctor import look
 from radacctl.files import opened_folder as opened, regular
 from radacctl.program import say
@@ -46,14 +47,10 @@ PLACES = [
     "/etc/default/radacctd*",
     site.RADDB,
     "/etc/nginx",
-    "/etc/fail2ban/jail.local",
-    "/etc/fail2ban/jail.d/radacctd*",
-    "/etc/fail2ban/jail.d/sshd.conf",
-    "/etc/fail2ban/filter.d/radacctd*",
     "/etc/systemd/system/radacctd*",
     "/etc/systemd/system/freeradius.service.d",
     "/etc/systemd/system/nginx.service.d",
-    stock.FOLDER,
+    "/var/lib/radacctd-site",
     "/var/lib/radacctd-withdrawn",
     logins.FOLDER,
     site.BOOKS,
@@ -74,13 +71,12 @@ LOCK = "/run/radacctd-site.lock"
 NAMING, LARGEST_NAMING = [site.RADDB, "/etc/nginx"], 1 << 20
 NAMED = re.compile(r"/etc/(?:ssl|letsencrypt)/[A-Za-z0-9._/-]+")
 NOT_NAMED = "/etc/ssl/certs/ca-certificates.crt"
-PACKAGES = ["freeradius*", "libfreeradius*", "nginx*", "libnginx*", "fcgiwrap", "fail2ban", "jq"]
-PACKAGES += ["fonts-dejavu-core", "python3-reportlab"]
-PACKAGES += ["nftables", "python3-systemd", "qrencode", "apache2-utils", "rsync", "ssl-cert"]
-UNITS = ["radacctd*", "freeradius.service", "nginx.service", "fail2ban.service"]
+PACKAGES = ["freeradius*", "libfreeradius*", "nginx*", "libnginx*", "fcgiwrap", "jq"]
+PACKAGES += ["fonts-dejavu-core", "python3-reportlab", *features.listed("PACKAGES")]
+PACKAGES += ["qrencode", "apache2-utils", "rsync", "ssl-cert"]
+UNITS = ["radacctd*", "freeradius.service", "nginx.service"]
 # What their packages enable, and a site may not.
-OTHERS = ["freeradius.service", "nginx.service", "fail2ban.service"]
-OTHERS += ["fcgiwrap.service", "fcgiwrap.socket"]
+OTHERS = ["freeradius.service", "nginx.service", "fcgiwrap.service", "fcgiwrap.socket"]
 
 
 def places():

@@ -6,12 +6,9 @@ import re
 import time
 import tomllib
 
-from radacctl import desk, files, names, plans, site, stock
-from radacctl.commands import shards
+from radacctl import desk, files, names, plans, site
 from radacctl.doctor import copies, look, machine
 from radacctl.doctor.faults import Fault
-from radacctl.doctor.kind import TABLE
-from radacctl.shards import table_of
 
 # Limits of a configuration, and how many are to be free.
 LIMITS, SPARE = {"key": 4096, "client": 1024, "plan": 256}, 64
@@ -34,44 +31,23 @@ SECRETS = {
     "/etc/radacctd*.toml~*": (0o640, ("root",), None),
     "/etc/radacctd-cashier.key": (0o600, ("root",), None),
     site.BOOKS_SECRET: (0o600, ("root",), None),
-    site.REDEEM_KEY: (0o640, ("root",), (site.REDEEM_USER,)),
+    site.SITE_KEY: (0o600, ("root",), None),
     "/etc/nginx/radacctd/cashier.conf": (0o600, ("root",), None),
     "/etc/nginx/radacctd/cashiers": (0o640, ("root",), None),
     site.STATE: (0o700, (site.USER,), None),
     site.BACKUPS: (0o700, ("root",), None),
 }
-# Where what is made of the table of 16 books is.
-MADE = {"freeradius": f"{site.RADDB}/sites-enabled/radacctd-shards",
-        "nginx": "/etc/nginx/radacctd/desks-shards.conf"}
-# What the user who redeems printed codes reads: else no code is redeemed.
-CODES = {
-    it: (mode, ("root",), (site.REDEEM_USER,))
-    for path in (f"{stock.FOLDER}/withdrawn.csv", stock.SECOND)
-    for it, mode in ((os.path.dirname(path), 0o750), (path, 0o640))
-}
 
 
 def look_at(kind):
-    if not kind.books and not kind.has_front:
-        yield Fault("config-wrong", f"{TABLE} names 16 books, and this machine has none of them",
-                    "SHARDS.md")
-    for book in kind.books:
-        yield from away(book)
-        yield from configuration(book)
-        yield from counts(book)
-        yield from journal(book)
-    yield from modes({**SECRETS, **CODES} if kind.has_codes else SECRETS)
+    book = kind.book
+    yield from away(book)
+    yield from configuration(book)
+    yield from counts(book)
+    yield from journal(book)
+    yield from modes(SECRETS)
     yield from groups(kind)
     yield from keys(kind)
-    yield from made(kind)
-
-
-def made(kind):
-    """What is made of the table of 16 books is as the table says, and as this version makes it."""
-    for name, path in MADE.items() if kind.has_shards else ():
-        if os.path.lexists(path) and files.text(path) != shards.SETTINGS[name](table_of(TABLE)):
-            yield Fault("file-old", f"{path} is not what {TABLE} says",
-                        f"radacctd-shards {name} > {path}; systemctl restart {name}")
 
 
 def content(book):
@@ -90,9 +66,9 @@ def configuration(book):
     for line in said.splitlines():
         if "is the sample's, which is public" in line:
             yield Fault("sample-value", f"{book.config}: {line.removeprefix('warning: ')}",
-                        "replace it: radacctl edit")
+                        "replace it: SITE.md")
     if status:
-        yield Fault("config-wrong", f"{book.config}: {look.last_line(said)}", "radacctl edit")
+        yield Fault("config-wrong", f"{book.config}: {look.last_line(said)}", "mend it: SITE.md")
         return
     found = content(book)
     clients = found.get("client", [])
@@ -101,7 +77,7 @@ def configuration(book):
     for name, most in LIMITS.items():
         if len(found.get(name, [])) > most - SPARE:
             yield Fault("keys-full", f"{book.config} has {len(found[name])} [[{name}]] of {most}",
-                        "radacctl key expire; for more use 16 books: SHARDS.md")
+                        "radacctl key expire; take away what no guest and no device uses")
 
 
 def secrets(path, clients):
@@ -135,7 +111,7 @@ def plans_of(book, found):
         if wanted.get(name) != force[name]:
             how = "is another one in" if name in wanted else "is not in"
             yield Fault("plan-lost", f"plan {name} ({', '.join(force[name])}) of the book {how} "
-                        f"{book.config}", "write it back as it was: radacctl edit")
+                        f"{book.config}", "write it back as it was: SITE.md")
 
 
 def away(book):
@@ -147,7 +123,7 @@ def away(book):
     lines = re.findall(r"^db: the name of .*$", journal_of(book), re.M)
     page = 'DAMAGE.md, "The book is missing"'
     if look.status_of(book.file) is None and not look.is_active(book.unit):
-        last = copies.last_good(book)
+        last = copies.last_good()
         copy = f"restore the last copy, {last}" if last else "restore the last copy"
         yield Fault("book-away", f"there is no {book.file}, and {book.unit} cannot run",
                     f"look for it; if it is gone, {copy}, and make no new one by init: {page}")
@@ -196,7 +172,7 @@ def journal(book):
                         f"give it the secret of its client in {book.config}")
         elif name == "UnknownClient":
             yield Fault("log-odd", f"{address} sends reports, and is no client",
-                        f"add it to {book.config}, or shut it out: radacctl edit")
+                        f"add it to {book.config}, or shut it out")
     for pattern, cure in ODD.items():
         if found := re.search(rf"^.*{pattern}.*$", said, re.M):
             name = "book-shut" if "db:" in pattern else "log-odd"
@@ -248,14 +224,14 @@ def groups(kind):
 # The files of cashiers' keys: of each, what finds the keys in it.
 KEY_FILES = {
     desk.CASHIER_KEY: r"(?m)^\s*(\S+)\s*$",
-    site.REDEEM_KEY: r"(?m)^\s*(\S+)\s*$",
+    site.SITE_KEY: r"(?m)^\s*(\S+)\s*$",
     "/etc/nginx/radacctd/cashier.conf": r'(?m)^\s*proxy_set_header\s+Desk-Key\s+"([^"]*)"',
 }
 
 
 def keys(kind):
     """Each cashier's key in a file is one of a configuration. None is printed."""
-    known = {it.get("token") for book in kind.books for it in content(book).get("key", [])
+    known = {it.get("token") for it in content(kind.book).get("key", [])
              if it.get("cashier") is True}
     for path, pattern in KEY_FILES.items():
         if not os.path.exists(path):
@@ -265,4 +241,4 @@ def keys(kind):
         if lost or not found:
             which = f"key {lost[0]} of {path}" if lost else path
             yield Fault("key-unknown", f"{which} is no cashier's key of the configuration",
-                        "write the same key into both: radacctl edit")
+                        "write the same key into both")

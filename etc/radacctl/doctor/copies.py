@@ -15,12 +15,10 @@ EMPTY_LOG = 41
 NOW = "systemctl start radacctd-nightly; journalctl -u radacctd-nightly -n 20"
 
 
-def place(book=None):
-    """The folder of the copies, and the names in it. Each of 16 books has a folder of its own."""
+def place():
+    """The folder of the copies, and the names in it."""
     values = look.values_in("/etc/default/radacctd-nightly")
     folder = values.get("RADACCTD_BACKUPS") or site.BACKUPS
-    if book and book.name:
-        folder = f"{site.BACKUPS}/{book.name}"
     return folder, os.listdir(folder) if os.path.isdir(folder) else []
 
 
@@ -29,19 +27,17 @@ def is_to_come(name):
     return name[:10] > time.strftime("%F", time.localtime(time.time() + 86400))
 
 
-def last_good(book=None, is_good=lambda path: True):
+def last_good(is_good=lambda path: True):
     """The path of the newest copy that was not refused, has a book and is good, or None."""
-    folder, names = place(book)
+    folder, names = place()
     found = (f"{folder}/{it}" for it in sorted(names, reverse=True)
              if NAME.fullmatch(it) and not is_to_come(it))
     return next((it for it in found if os.path.exists(f"{it}/book") and is_good(it)), None)
 
 
 def look_at(kind):
-    for book in kind.books:
-        yield from copies_in(*place(book))
-    if kind.books:
-        yield from database()
+    yield from copies_in(*place())
+    yield from database()
 
 
 def copies_in(folder, names):
@@ -84,16 +80,14 @@ def lost(path):
     """The files of a copy that are shorter than `backup` wrote, as a restore has it: a check cuts a
     log if the file has all of it, and sqlite3 puts it into the file, which changes.
     """
-    # A version before wrote lengths alone.
-    sizes = re.sub(r"(?m)^(book\S*) (\d+)$", r"- \2 \1", files.text(f"{path}/sizes"))
-    wrote = re.findall(r"(?m)^(\d+|-) (\d+) (book(?:-wal)?)$", sizes)
+    wrote = re.findall(r"(?m)^(\d+) (\d+) (book(?:-wal)?)$", files.text(f"{path}/sizes"))
     for _, size, part in wrote:
         status = look.status_of(f"{path}/{part}")
         has = status.st_size if status else -1
         is_empty = part == "book-wal" and (has == EMPTY_LOG or int(size) <= EMPTY_LOG)
         if has < int(size) and not is_empty:
             said = look.run("cksum", f"{path}/book", seconds=1800)[1]
-            if part == "book" or wrote[0][0] in ("-", *said.split()[:1]):
+            if part == "book" or wrote[0][0] in said.split()[:1]:
                 yield part, size
 
 

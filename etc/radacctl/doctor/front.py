@@ -7,7 +7,7 @@ import shutil
 import tempfile
 import time
 
-from radacctl import files, freeradius, names, plans, shards, site
+from radacctl import files, freeradius, names, plans, site
 from radacctl.doctor import book as books, look, machine
 from radacctl.doctor.faults import Fault
 
@@ -52,8 +52,8 @@ def look_at(kind):
     yield from proxies(kind)
     yield from names_refused()
     yield from ignored()
-    yield from queue(kind)
-    yield from counts(kind)
+    yield from queue()
+    yield from counts()
     yield from mirror(kind)
     yield from certificates()
 
@@ -70,7 +70,7 @@ def steps(kind):
         if not os.path.exists(path):
             yield Fault("raddb-steps", f"{path} is missing",
                         f"radacctl setup, or {look.linked(path, site.shared('freeradius', own))}")
-    yield from lines(kind)
+    yield from lines()
     yield from tunnel()
     status, said = look.run(*freeradius.test())
     if status:
@@ -78,18 +78,16 @@ def steps(kind):
                     f"runuser -P -u {site.RADIUS_USER} -- freeradius -CX | tail")
 
 
-def lines(kind):
+def lines():
     """Those of the virtual servers that the site sells by: others may be next to them."""
-    first = [*(["radacctd_shard"] if kind.has_shards else []), "radacctd_accounting"]
     names = freeradius.serving("auth", "acct") or ["default"]
     servers = [(name, *it) for name in names for it in sections(name)]
     sold = [it for it in servers if "radacctd_accounting" in it[1].split()]
-    late = [it[0] for it in sold if not freeradius.begins_with(it[1], first)]
+    late = [it[0] for it in sold if not freeradius.begins_with(it[1], ["radacctd_accounting"])]
     free = [it[0] for it in sold if it[2] and "radacctd_login" not in it[2].split()]
     if late or not sold:
-        cure = "step 4 of SHARDS.md" if kind.has_shards else f"step 6 of {PAGE}"
-        yield Fault("raddb-steps", f"accounting does not begin with {' and '.join(first)}",
-                    f"write it there in sites-enabled/{(late or names)[0]}: {cure}")
+        yield Fault("raddb-steps", "accounting does not begin with radacctd_accounting",
+                    f"write it there in sites-enabled/{(late or names)[0]}: step 6 of {PAGE}")
     if free or not any("radacctd_login" in it[2].split() for it in servers):
         yield Fault("raddb-steps", "post-auth has no radacctd_login: everybody gets in",
                     f"write it into sites-enabled/{(free or names)[0]}: step 7 of {PAGE}")
@@ -119,9 +117,9 @@ def tunnel():
 def settings(kind):
     """Address, port and secret are those of radacctd's one client."""
     found = freeradius.settings()
-    if kind.has_shards or found["address"] not in ("127.0.0.1", ""):
+    if found["address"] not in ("127.0.0.1", ""):
         return
-    it = kind.books[0]
+    it = kind.book
     if found["port"] != str(it.port()):
         yield Fault("front-address", f"FreeRADIUS sends reports to port {found['port']}, and "
                     f"radacctd listens at {it.port()}",
@@ -193,10 +191,10 @@ def certificates():
 
 def proxies(kind):
     """A home server that asks radacctd for what it never answers."""
-    ports = {str(it.port()) for it in kind.books}
+    port = str(kind.book.port())
     for name in ("proxy.conf", *(f"sites-enabled/{it}" for it in freeradius.enabled())):
         for server, block in freeradius.blocks("home_server", freeradius.text(name)):
-            is_ours = freeradius.value(block, "port") in ports
+            is_ours = freeradius.value(block, "port") == port
             if is_ours and freeradius.value(block, "status_check") == "status-server":
                 yield Fault("status-check", f"home_server {server} of {name} asks by status-server",
                             "status_check = none, revive_interval = 10")
@@ -242,18 +240,14 @@ def found_in(pattern, lines):
     return {it[1] for it in map(pattern.search, lines) if it}
 
 
-def queue_folders(kind):
-    """Where reports are queued: each of 16 books has a folder of its own."""
+def queue_folders():
+    """Where reports are queued."""
     folder = freeradius.settings()["queue"].replace("${radacctdir}", site.RADACCT)
-    folder = folder or f"{site.RADACCT}/radacctd"
-    if not kind.has_shards:
-        return [site.RADACCT, folder]
-    above = folder.removesuffix("/%{Tmp-String-8}")
-    return [site.RADACCT, above, *(f"{above}/{it}" for it in shards.SHARDS)]
+    return [site.RADACCT, folder or f"{site.RADACCT}/radacctd"]
 
 
-def queue(kind):
-    for path in queue_folders(kind):
+def queue():
+    for path in queue_folders():
         status = look.status_of(path)
         owner = look.must("stat", "-c", "%U", path).strip() if status else "nobody"
         if owner != site.RADIUS_USER:
@@ -271,7 +265,7 @@ def states():
             yield Fault("queue-state", f"{meaning}: {line}", f"{cure}: {PAGE}")
 
 
-def counts(kind):
+def counts():
     """What waits and what was filed: as front-counts counts it, run now by FreeRADIUS' user."""
     status = look.status_of(COUNTS)
     if status is None or time.time() - status.st_mtime > COUNTS_OLD:
@@ -282,7 +276,7 @@ def counts(kind):
         if moment and time.time() - moment > WAITS:
             since = time.strftime("%F %T", time.localtime(moment))
             yield Fault("queue-waits", f"reports of the queue {labels['queue']} wait since {since}",
-                        f"systemctl status {kind.servers()}; look at secret and address: {PAGE}")
+                        f"systemctl status radacctd; look at secret and address: {PAGE}")
     for labels, count in found.get("radacctd_unsent_reports", []):
         if count:
             folder = f"{site.RADACCT}/{labels['folder']}"
@@ -320,13 +314,12 @@ def mirror(kind):
     oldest = freeradius.settings()["oldest"]
     if age > (int(oldest) if oldest.isdigit() else 60):
         yield Fault("mirror-old", f"the balances of logins are {age:.0f} seconds old",
-                    f"systemctl status {kind.servers()} radacctd-mirror; date")
+                    "systemctl status radacctd radacctd-mirror; date")
     found = {names.shown(row[0]): tuple(map(str, row[1:])) for row in rows}
     path = "/var/lib/radacctd-pair/plans.csv" if kind.has_pair else site.PLANS
     wanted = plans.in_force(path)
     if wanted is None:
         yield Fault("mirror-plans", f"{path} is missing: nobody knows the plans of logins",
-                    "journalctl -u radacctd-shards -n 20" if kind.has_shards else
                     "systemctl restart radacctd; of a pair, start the other machine")
     elif wanted != found:
         which = sorted(set(found) ^ set(wanted)) or sorted(it for it in found

@@ -54,8 +54,7 @@ def failed():
         if unit.startswith("radacctd"):
             # One that a socket made, or that is gone, runs no more. Any other one shows by a run
             # that it is mended.
-            is_one_of_many = "@" in unit and not unit.startswith("radacctd@")
-            act = "reset-failed" if is_one_of_many or "not-found" in line.split() else "start"
+            act = "reset-failed" if "@" in unit or "not-found" in line.split() else "start"
             yield Fault("unit-failed", f"{unit} has failed", f"journalctl -u {unit} -n 20; once it "
                         f"is mended: systemctl {act} {unit}")
 
@@ -117,11 +116,10 @@ def clock(kind):
     if now < YEAR_2026:
         yield Fault("clock-wrong", f"the clock says {time.strftime('%F %T')}",
                     "timedatectl set-ntp true, or set-time")
-    for book in kind.books:
-        for path in (book.balances, book.counts):
-            status = look.status_of(path)
-            if status:
-                yield from to_come(path, status.st_mtime)
+    for path in (site.BALANCES, site.COUNTS):
+        status = look.status_of(path)
+        if status:
+            yield from to_come(path, status.st_mtime)
     try:
         found = look.must("timedatectl", "show", "-p", "NTP", "-p", "NTPSynchronized")
     except look.Unseen as why:

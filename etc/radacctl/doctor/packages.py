@@ -7,7 +7,7 @@ import shlex
 import tarfile
 import time
 
-from radacctl import archive, files, freeradius, logins, names, packages, plans, site
+from radacctl import archive, files, freeradius, logins, packages, plans, site
 from radacctl.doctor import copies, front
 from radacctl.doctor.faults import Fault
 from radacctl.setup import front as setup_front, packages as wanted
@@ -75,24 +75,10 @@ def databases():
     elif keys and keys[0][0] != logins.mark_of(found["key"]):
         yield Fault("packages-key", f"radacctd/{logins.CONF} has another key than the codes",
                     "put the old one back, and restart freeradius")
-    yield from free_codes(store)
     for [(count,)], what in zip(counts, ("guests are begun", "debits are decided")):
         if count:
             yield Fault("packages-wait", f"{count} {what}, and not finished",
                         "journalctl -u radacctd-packages -n 20")
-
-
-def free_codes(store):
-    """Codes that log in without a sale: an earlier version made them of a plan without a price."""
-    free = {name for name, plan in (plans.in_force() or {}).items() if plan[1:2] == ("0",)}
-    for name, sheet, count in store.read(
-        "SELECT class, sheet, count(*) FROM login WHERE digest IS NOT NULL AND sold IS NULL "
-        "AND state = 'live' GROUP BY class, sheet"
-    ):
-        if names.shown(name.encode()) in free:
-            yield Fault("packages-file", f"{count} codes of {sheet} log in without a sale: the "
-                        f"plan {name} costs nothing", "radacctl packages withdraw --unsold "
-                        f"{shlex.quote(sheet)}; radacctl guest new sells such a package")
 
 
 def put_back(path=logins.FILE):
@@ -102,7 +88,7 @@ def put_back(path=logins.FILE):
             file = tar.extractfile(path[1:])
             return file is not None and file.read(15) == b"SQLite format 3"
 
-    copy = shlex.quote(f"{copies.last_good(None, is_good) or site.BACKUPS + '/DATE'}/site.tar.gz")
+    copy = shlex.quote(f"{copies.last_good(is_good) or site.BACKUPS + '/DATE'}/site.tar.gz")
     return (f"systemctl stop freeradius; mv -T --backup=numbered {logins.FOLDER} "
             f"/root/{os.path.basename(logins.FOLDER)}; tar -xpzf {copy} "
             f"-C / {logins.FOLDER.lstrip('/')}; systemctl start freeradius")

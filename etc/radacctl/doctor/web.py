@@ -1,4 +1,4 @@
-"""nginx, its certificate and secrets, the pages' settings, printed codes, fail2ban."""
+"""nginx, its certificate and secrets, the pages' settings, printed codes."""
 
 import contextlib
 import glob
@@ -10,7 +10,7 @@ import socket
 import ssl
 import stat
 
-from radacctl import files, freeradius, money, site
+from radacctl import files, money, site
 from radacctl.clerk import rights
 from radacctl.doctor import kind as kinds, look
 from radacctl.doctor.faults import Fault
@@ -19,9 +19,6 @@ FOLDER, WEB = "/etc/nginx/radacctd", "/etc/radacctd-web"
 # Of the file for nginx what a site changes: these directives, and where pages and tools are.
 CHANGED = re.compile(r"^(?:server_name|ssl_|listen|include radacctd/desks|root|limit_req_zone|"
                      r"fastcgi_param SCRIPT_FILENAME|access_log|error_log)")
-JAILS, JAIL_LOCAL = "/etc/fail2ban/jail.d/*.[cl]o*", "/etc/fail2ban/jail.local"
-OWN = {"127.0.0.1", "127.0.0.1/8", "127.0.0.0/8", "::1", "::1/128"}
-JAIL, FILTER = "/etc/fail2ban/jail.d/radacctd.conf", "/etc/fail2ban/filter.d/radacctd.conf"
 LOGS = "/var/log/nginx/radacctd*.log"
 FCGIWRAP = ("fcgiwrap.socket", "fcgiwrap.service")
 
@@ -38,7 +35,6 @@ def look_at(kind):
     yield from clerk(kind)
     yield from answers(kind, text)
     yield from programs()
-    yield from fail2ban()
 
 
 def lines_of(text):
@@ -124,16 +120,8 @@ def settings():
         elif not found["url"].startswith("https://"):
             yield Fault("pages-settings", f"{money.SETTINGS}: url does not begin with https://",
                         "write it there")
-        classes = freeradius.settings()["time_classes"]
-        if classes and found["time_classes"] != classes:
-            yield Fault("pages-settings", f"{money.SETTINGS} has other time_classes than "
-                        "FreeRADIUS", f"write there: {classes}")
     except (OSError, ValueError) as why:
         yield Fault("pages-settings", str(why), "radacctl pages; then write your values there")
-    path, plans = f"{WEB}/plans.json", site.PLANS_JSON
-    if not os.path.islink(path) or os.path.realpath(path) != plans or not os.path.exists(plans):
-        yield Fault("pages-plans", f"{path} is no link to the plans in force, {plans}",
-                    "radacctl pages; it says what else")
 
 
 def clerk(kind):
@@ -156,9 +144,8 @@ def answers(kind, text):
         return
     by_certificate = re.search(r"(?m)^\s*set \$radacctd_login\s+certificate",
                                files.text(f"{FOLDER}/login.conf"))
-    wanted = {"/": 200, "/desk/": 403 if by_certificate else 401, "/settings.json": 200}
-    if kind.has_codes:
-        wanted["/redeem/"] = 200
+    wanted = {"/": 200, "/login/": 200, "/settings.json": 200}
+    wanted["/desk/"] = 403 if by_certificate else 401
     for path, status in wanted.items():
         found = asked(text, path)
         if found not in (status, 429):
@@ -218,21 +205,3 @@ def programs():
             yield Fault("fcgiwrap-open", f"{unit} of Debian runs programs for every page",
                         f"systemctl disable --now {' '.join(FCGIWRAP)}")
             return
-
-
-def fail2ban():
-    if not os.path.exists(JAIL):
-        return
-    yield from differing(FILTER, "nginx", "fail2ban", "radacctd.filter.conf")
-    if look.run("fail2ban-client", "status", "radacctd")[0]:
-        yield Fault("fail2ban-down", "fail2ban has no jail radacctd",
-                    "systemctl restart fail2ban; tail /var/log/fail2ban.log")
-    text = "\n".join(files.text(it) for it in [*sorted(glob.glob(JAILS)), JAIL_LOCAL])
-    lines = re.findall(r"(?m)^ignoreip\s*=(.*(?:\n[ \t].*)*)", text)
-    known = {word for it in lines for word in re.split(r"[\s,]+", it) if word}
-    has_cashiers = ":" in files.text(f"{FOLDER}/cashiers")
-    if not lines or has_cashiers and not known - OWN:
-        only = " but this machine's own" if lines else ""
-        yield Fault("fail2ban-desk", f"{JAIL} has no ignoreip{only}: a mistyped password closes "
-                    "sales", "write the front desk's network there, and into front_desk of the "
-                    "answers to radacctl setup; then systemctl restart fail2ban")

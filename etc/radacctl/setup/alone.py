@@ -21,7 +21,7 @@ NOTES = "/root/radacctd-setup"
 PROVED = f"{NOTES}/proved"
 HEAD = """\
 # The site: who reports, what the plans cost, who may use the desk. `radacctl setup` wrote it, and
-# only adds to it. Change it by radacctl edit; man radacctd.toml has the rules.
+# only adds to it. man radacctd.toml has the rules, docs/SITE.md how it is changed.
 """
 
 
@@ -48,7 +48,8 @@ class Config:
             self.add_plans()
             self.keys = self.add_keys()
         except (AttributeError, KeyError, TypeError):
-            raise steps.Failed(f"{site.CONFIG} is wrong: radacctl edit says where") from None
+            why = f"{site.CONFIG} is wrong: radacctd check --explain says where"
+            raise steps.Failed(why) from None
 
     def add_clients(self):
         wanted = {"books": "127.0.0.9"}
@@ -78,14 +79,14 @@ class Config:
                                    "a plan stays what it is, so add one of a new class")
 
     def add_keys(self):
-        """The cashiers' keys of the front desk and the tools, and of printed codes."""
+        """The cashiers' keys of the front desk and the tools, and of the pages' service."""
         known = [it["token"] for it in self.found.get("key", []) if it.get("cashier") is True]
         found = {}
-        for name, path in (("cashier", desk.CASHIER_KEY), ("redeem", site.REDEEM_KEY)):
+        for name, path in (("cashier", desk.CASHIER_KEY), ("site", site.SITE_KEY)):
             key = files.text(path).split("\n")[0].strip()
             if key not in known:
                 # That of a run which was killed before it wrote the file, or a new one.
-                used = [*found.values(), files.text(site.REDEEM_KEY).strip()]
+                used = [*found.values(), files.text(site.SITE_KEY).strip()]
                 key = next((it for it in known if it not in used), None)
             if key is None:
                 key = self.answers.secrets.get(name) or f"{name}-{secrets.token_hex(16)}"
@@ -270,7 +271,7 @@ def of(answers, config):
         yield File(site.DEFAULTS, lambda old: defaults(old, answers), 0o644)
     yield File(site.BOOKS_SECRET, config.clients["books"]["secret"] + "\n", 0o600)
     # The outbox of a pair takes both; the first is that of the tools.
-    keys = [config.keys[it] for it in (("cashier", "redeem") if answers.pair else ("cashier",))]
+    keys = [config.keys[it] for it in (config.keys if answers.pair else ("cashier",))]
     yield File(desk.CASHIER_KEY, "".join(f"{it}\n" for it in keys), 0o600)
     yield Folder(site.STATE, 0o700, site.USER, site.USER)
     book = ("--config", site.CONFIG, "--db", site.BOOK)

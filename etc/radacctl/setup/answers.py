@@ -10,12 +10,12 @@ import sys
 import tomllib
 
 from radacctl import names
-from radacctl.money import MOST_DECIMALS
+from radacctd_site.core.money import MOST_DECIMALS
 
 VENDORS = ("mikrotik", "unifi", "pfsense", "openwrt", "aruba", "cisco", "other")
 OTHERS_SECRET = re.compile(r"""(?=[^']*\Z|[^"$]*\Z)[^\\\x00-\x1f]{1,128}""")
 BROADCAST = ipaddress.ip_address("255.255.255.255")
-SECRETS = ("freeradius", "books", "cashier", "redeem", "pair")
+SECRETS = ("freeradius", "books", "cashier", "site", "pair")
 # Names and addresses that setup or Debian's FreeRADIUS has itself.
 TAKEN_NAMES = ("freeradius", "books", "radacctd-setup", "localhost", "localhost_ipv6")
 TAKEN_ADDRESSES = ("127.0.0.1", "127.0.0.8", "127.0.0.9", "::1")
@@ -98,11 +98,6 @@ def network_of(text):
         raise ValueError(f"no address, and no network: {what}") from None
 
 
-def spelled(network):
-    """A network as all files spell it, or the address that is all of it."""
-    return str(network if network.num_addresses > 1 else network.network_address)
-
-
 def one_address(text):
     """An address of one machine, as all files spell it: without the /32 that a network has."""
     network = network_of(text)
@@ -127,8 +122,6 @@ FLAG = rule("true or false", lambda it: isinstance(it, bool))
 TABLE = rule("a table", lambda it: isinstance(it, dict))
 LIST = rule("a list in brackets", lambda it: isinstance(it, list))
 OWN_ADDRESS = lambda it: one_address(it) if it != "" else it
-# fail2ban reads some ways to write a network otherwise.
-NETWORKS = lambda found: [spelled(network_of(it)) for it in LIST(found)]
 PRINTABLE = rule("a text in quotation marks, and printable",
                  lambda it: isinstance(it, str) and it.isprintable())
 PATH = "/[A-Za-z0-9._/-]+"
@@ -144,7 +137,7 @@ TOP = {
     "certificate": ("", text("a path from the root", f"({PATH})?")),
     "certificate_key": ("", text("a path from the root", f"({PATH})?")),
     "currency": ("", PRINTABLE), "decimals": (2, number(0, MOST_DECIMALS)),
-    "cashiers": ([], CASHIERS), "codes": (True, FLAG), "front_desk": ([], NETWORKS),
+    "cashiers": ([], CASHIERS),
     "class": ("", PRINTABLE), "packages": (False, FLAG), "desk_guests": ([], CASHIERS),
     "desk_corrections": ([], CASHIERS), "operators": ([], CASHIERS), "left_out": ([], NAMES),
     "realms": ([], NAMES), "virtual_servers": ([], NAMES),
@@ -212,7 +205,6 @@ class Answers:
         self.plans = tables(it["plan"], PLAN, "plan")
         self.access_servers = tables(it["access_server"], ACCESS_SERVER, "access_server")
         self.has_front, self.has_packages = it["freeradius"], it["packages"]
-        self.has_codes = it["codes"] and bool(it["host"])
         self.clerks = {right: it[name] for name, right in CLERKS.items()}
         self.has_clerk = any(self.clerks.values())
         classes = [each["class"] for each in self.plans]

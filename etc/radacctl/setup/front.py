@@ -114,8 +114,6 @@ def parts(answers, config):
     for name in sorted({it[0] for it in placed if it}):
         path = place_of(name) if name.startswith("sites-enabled/") else raddb(name)
         yield File(path, lambda old, name=name: with_lines(old, name, answers))
-    kept = files.sample("freeradius", "kept")
-    yield of_group(raddb("radacctd", "kept"), lambda old: kept if old is None else old)
     yield File(raddb("radiusd.conf"), lambda old: main(old, answers))
     for path in outer(answers):
         yield File(path, lambda old, path=path: default(old, answers, path))
@@ -424,7 +422,7 @@ def password():
 
 def running(inside):
     """FreeRADIUS runs with the files as they are, which it has tested."""
-    others = ("radacctd/balances-mirror", "radacctd/front-counts", "radacctd/kept-sessions")
+    others = ("radacctd/balances-mirror", "radacctd/front-counts")
     names = [it for it in freeradius.OURS if it not in others]
     names += [f"radacctd/{it}" for it in (*freeradius.SETTINGS, "pair.conf", "packages.conf")]
     names += [*packages.OURS, "sites-enabled/radacctd-pair", "mods-enabled/sql"]

@@ -93,9 +93,8 @@ class Once(File):
 def text(answers, config):
     """The answers of the other machine, once all secrets are there."""
     found = {name: value for name, value in answers.found.items() if value != {}}
-    # Printed codes are redeemed on one machine; and only a person knows where access servers
-    # reach the other one.
-    found |= {"codes": False, "certificate": "", "certificate_key": "", "server": ""}
+    # Only a person knows where access servers reach the other one.
+    found |= {"certificate": "", "certificate_key": "", "server": ""}
     lists = {"plan": found.pop("plan"), "access_server": found.pop("access_server")}
     tables = {"pair": {"own": answers.pair["other"], "other": answers.pair["own"], "second": True},
               "sql": found.pop("sql", None), "secrets": secrets(answers, config)}

@@ -1,4 +1,4 @@
-"""The steps to the pages: nginx, its certificate, cashiers, printed codes, fail2ban."""
+"""The steps to the pages: nginx, its certificate, cashiers, the pages' service."""
 
 import json
 import os
@@ -6,18 +6,20 @@ import re
 import shlex
 import tempfile
 
-from radacctl import files, freeradius, money, site, stock
+from radacctd_site.core import features, places
+from radacctl import files, money, site, stock
 from radacctl.clerk import rights
 from radacctl.doctor import kind, look, machine, web as of_web
-from radacctl.doctor.web import FILTER, FOLDER, JAIL
+from radacctl.doctor.web import FOLDER
 from radacctl.program import told
 from radacctl.setup import pair, steps
 from radacctl.setup.alone import NOTES, Command, File, Folder, unit, user
 from radacctl.setup.front import is_debians, member
 from radacctl.setup.steps import Fresh, Link, Step, Trial
 
-PACKAGES = ["nginx", "apache2-utils", "openssl", "fail2ban", "nftables", "python3-systemd"]
-CODES = ["fcgiwrap", "qrencode", "python3-reportlab", "fonts-dejavu-core"]
+PACKAGES = ["nginx", "apache2-utils", "openssl"]
+# What packages' sheets of codes need.
+SHEETS = ["qrencode", "python3-reportlab", "fonts-dejavu-core"]
 CONF = kind.NGINX
 CERTIFICATE, PRIVATE_KEY = "/etc/ssl/radacctd.pem", "/etc/ssl/private/radacctd.key"
 PASSWORDS = f"{NOTES}/cashiers.txt"
@@ -39,20 +41,17 @@ def of(answers, config):
     yield Trial("nginx", "/etc/nginx", found, TEST)
     yield from found
     yield Folder("/etc/radacctd-web")
-    yield Link("/etc/radacctd-web/plans.json", site.PLANS_JSON)
     yield File(money.SETTINGS, lambda old: settings(old, answers), 0o644)
     yield member(site.WEB_USER)
     # Debian's own one runs programs for every page, also if it came with another package.
     yield Command("stop Debian's own fcgiwrap", lambda: not [*of_web.programs()],
                   "systemctl", "disable", "--now", *of_web.FCGIWRAP)
-    if answers.has_codes:
-        yield from codes(config)
+    yield from service(answers, config)
     yield from clerk(answers)
     yield Command("take Debian's own page of nginx away", lambda: not has_debians_page(), "rm",
                   "-f", DEFAULT)
     yield nginx()
     yield unit("nginx.service")
-    yield from fail2ban(answers)
 
 
 def files_of(answers, config):
@@ -74,7 +73,6 @@ def files_of(answers, config):
     yield Server(CONF, lambda old: server(old or "", answers), 0o644)
 
 
-SSHD = "/etc/fail2ban/jail.d/sshd.conf"
 DEFAULT, OF_PACKAGE = (f"/etc/nginx/sites-{it}/default" for it in ("enabled", "available"))
 
 
@@ -125,10 +123,9 @@ class Server(File):
         return f"{super().text()}\n    (your own lines belong into {FOLDER}/own.conf, which stays)"
 
 
-# Where a server listens; how often an address may ask, and how often it may be wrong.
+# Where a server listens; how often an address may ask.
 LISTEN = re.compile(r"(?m)^[ \t]*listen[ \t].*\n(?:(?:[ \t]*(?:#.*)?\n)*[ \t]*listen[ \t].*\n)*")
 RATE = re.compile(r"(?m)^limit_req_zone .* zone=(\w+):.*$")
-LIMIT = re.compile(r"(?m)^(maxretry|findtime|bantime)[ \t]*=.*$")
 
 
 def kept(pattern, text, old):
@@ -166,7 +163,7 @@ def settings(old, answers):
                            f"{answers.decimals}: each sum of the book would be another one")
     found |= {"name": answers.name, "url": f"https://{answers.host}",
               "currency": answers.currency, "decimals": answers.decimals,
-              "time_classes": freeradius.settings()["time_classes"], "clerk": answers.has_clerk}
+              "clerk": answers.has_clerk}
     return json.dumps(found, indent=2, ensure_ascii=False) + "\n"
 
 
@@ -176,15 +173,20 @@ def logins():
     return [it.partition(":")[0] for it in lines if ":" in it]
 
 
-def make_login(name):
-    """A cashier's login. The password is made once, and only root reads it."""
+def password_of(name):
+    """A person's password, which is made once, and which only root reads."""
     found = re.search(rf"(?m)^{re.escape(name)} (\S+)$", files.text(PASSWORDS))
     password = found[1] if found else "-".join(stock.letters(5) for _ in range(4))
     line = f"{name} {password}\n"
     notes = lambda old: old if line in (old or "") else with_line(old, line)
     # The older content of setup's own files needs no copy.
     File(PASSWORDS, notes, 0o600, keeps=False).do()
-    made = steps.given(["htpasswd", "-niB", name], password).strip() + "\n"
+    return password
+
+
+def make_login(name):
+    """A cashier's login for nginx."""
+    made = steps.given(["htpasswd", "-niB", name], password_of(name)).strip() + "\n"
     File(f"{FOLDER}/cashiers", lambda old: with_line(old, made), 0o640, of_group=site.WEB_USER,
          keeps=False).do()
 
@@ -194,7 +196,8 @@ def others(answers):
     for name in logins() if answers.host else []:
         if name not in answers.cashiers and not name.startswith("#"):
             yield (f"{name} may still log in at /desk/, and is not in `cashiers`. To end that: "
-                   f"htpasswd -D {FOLDER}/cashiers {shlex.quote(name)}")
+                   f"htpasswd -D {FOLDER}/cashiers {shlex.quote(name)}; "
+                   f"radacctl person remove {shlex.quote(name)}")
 
 
 def with_line(text, line):
@@ -211,14 +214,29 @@ def logs():
                   "--create", place)
 
 
-def codes(config):
-    """Printed codes: a user who has the stock, and a socket for nginx."""
-    group = site.REDEEM_USER
-    yield user(group)
-    for folder in (stock.FOLDER, os.path.dirname(stock.SECOND)):
-        yield Folder(folder, 0o750, of_group=group)
-    yield File(site.REDEEM_KEY, config.keys["redeem"] + "\n", 0o640, of_group=group)
-    yield unit("radacctd-redeem.socket")
+def service(answers, config):
+    """The pages' own service: its user, its key, logins of those who work there, its units."""
+    yield user(places.USER)
+    yield Folder(places.USUAL, 0o700, places.USER, places.USER)
+    yield File(site.SITE_KEY, config.keys["site"] + "\n", 0o600)
+    for name in answers.cashiers:
+        role = "operator" if name in answers.operators else "cashier"
+        yield Step(f"make a login for the {role} {name} at the pages' service",
+                   lambda name=name, role=role: f"{name}: {role}" in persons(),
+                   lambda name=name, role=role: make_person(name, role))
+    for name in features.listed("UNITS"):
+        yield unit(name)
+
+
+def persons():
+    """Each login at the pages' service, with its role."""
+    return steps.given([f"{site.SBIN}/radacctl", "person", "list"]).splitlines()
+
+
+def make_person(name, role):
+    """The login of a person, by the password in setup's notes."""
+    more = ["--operator"] if role == "operator" else []
+    steps.given([f"{site.SBIN}/radacctl", "person", "put", name, *more], password_of(name) + "\n")
 
 
 def clerk(answers):
@@ -248,24 +266,3 @@ def nginx():
     lacks = lambda: machine.lacks_group("nginx.service", site.WEB_USER, site.READERS)
     holds = lambda: not lacks() and not of_web.serves_another(files.text(CONF))
     return Fresh("test and restart nginx", "nginx.service", [CONF, f"{FOLDER}/*"], TEST, holds)
-
-
-def fail2ban(answers):
-    """Shuts out who guesses keys, logins or codes, and never the front desk."""
-    networks = " ".join(["127.0.0.1/8", "::1", *answers.front_desk])
-    sample = files.sample("nginx", "fail2ban", "radacctd.jail.conf")
-    jail = re.sub(r"(?m)^# ignoreip = .*$", f"ignoreip = {networks}", sample)
-    yield Link(FILTER, site.shared("nginx", "fail2ban", "radacctd.filter.conf"))
-    yield File(JAIL, lambda old: kept(LIMIT, jail, old or ""), 0o644)
-    sshd = "[sshd]\nbackend = systemd\n"
-    yield File(SSHD, lambda old: old or sshd, 0o644)
-    yield unit("fail2ban.service")
-    yield watching()
-
-
-def watching():
-    """fail2ban watches the pages, by the files as they are."""
-    holds = lambda: look.run("fail2ban-client", "status", "radacctd", seconds=30)[0] == 0
-    why = "fail2ban has no jail radacctd: tail /var/log/fail2ban.log"
-    return Fresh("let fail2ban watch the pages", "fail2ban.service", [FILTER, JAIL, SSHD],
-                 holds=holds, why=why)
