@@ -110,7 +110,7 @@ fn wrong_bearer<'d>(kind: Kind, table: &'d Table) -> Option<What<'d>> {
     if kind.table != "key" {
         return None;
     }
-    let named = BEARERS.iter().filter(|name| table.contains_key(name));
+    let named = BEARERS.iter().filter(|name| table.contains_key(**name));
     match named.count() {
         0 => Some(What::Said("this [[key]] has none of account, cashier and logins")),
         1 => None,

@@ -97,14 +97,18 @@ fn a_later_stamp_changes_no_price(rt: HostRuntime) -> Result<(), Fail> {
     Ok(())
 }
 
-fn counting(site: &mut Site, class: &[u8], octets: &[u8; 4]) -> Result<Outcome, Fail> {
-    let attributes: [(u8, &[u8]); 4] = [
+fn counting(
+    site: &mut Site,
+    class: &'static [u8],
+    total: &'static [u8; 4],
+) -> Result<Outcome, Fail> {
+    let attributes: [(u8, &'static [u8]); 4] = [
         (40, &[0, 0, 0, 3]),
         (44, b"s1"),
         (25, class),
-        (42, octets),
+        (42, total),
     ];
-    site.ask_with(2000, octets[1], &attributes)
+    site.ask_with(2000, total[1], &attributes)
 }
 
 // A device that changes its name in a session is another client, and the session is charged anew.
@@ -117,12 +121,13 @@ fn a_renamed_device_is_charged_anew(rt: HostRuntime) -> Result<(), Fail> {
     Ok(())
 }
 
+static LONGEST: Told = (&[b'i'; 253], &[0xff; 253], &[]);
+
 // The longest session's id and account: nothing has a bound for the name that they make.
 #[test]
 fn the_longest_session_is_recorded(rt: HostRuntime) -> Result<(), Fail> {
     let mut site = stamped(rt.alloc(), false)?;
-    let told: (&[u8], &[u8], &[&[u8]]) = (&[b'i'; 253], &[0xff; 253], &[]);
-    assert!(rt; report(&mut site, 7, &told)? == SHORT_REPLY);
+    assert!(rt; report(&mut site, 7, &LONGEST)? == SHORT_REPLY);
     assert!(rt; site.balance(&[0xff; 253])? == -10 && longest(&mut site)? == 253 + 2 + 759);
     Ok(())
 }
@@ -208,18 +213,14 @@ fn state(site: &mut Site, client: &str) -> Result<Option<SessionState>, Fail> {
 }
 
 // What becomes of a report.
-fn report(
-    site: &mut Site,
-    identifier: u8,
-    told: &(&[u8], &[u8], &[&[u8]]),
-) -> Result<Outcome, Fail> {
-    let mut attributes: [(u8, &[u8]); 7] = [(79, &[]); 7];
+fn report(site: &mut Site, identifier: u8, told: &Told) -> Result<Outcome, Fail> {
+    let mut attributes: [(u8, &'static [u8]); 7] = [(79, &[]); 7];
     attributes[0] = (40, &[0, 0, 0, 3]);
     attributes[1] = (44, told.0);
     attributes[2] = (1, told.1);
     attributes[3] = (42, &[0, 16, 0, 1]);
     for (place, class) in told.2.iter().take(3).enumerate() {
-        attributes[4 + place] = (25, class);
+        attributes[4 + place] = (25, *class);
     }
     site.ask_with(2000, identifier, &attributes)
 }
