@@ -124,6 +124,7 @@ ALLOWED = {
         "site.db": "the file of the pages' service",
         "adm": "a group of the system",
         "/logins/ACCOUNT/CLASS[/LOGIN[/STATION/SECONDS]]": "a path of the desk, with its parts",
+        "/overruns/sessions[/after/ACCOUNT]": "a path of the desk, with its parts",
         **each("nginx' paths", "/desk/", "/operator/", "/redeem/"),
         "revoke": "a command of radacctl key",
         **each("a member of settings.json", "url"),

@@ -1,10 +1,10 @@
 -- Where octets are cut: before their first slash.
 use Rattle.std.proofs.Common.{◌≡◌, ℕ, zero, suc, ◌+◌, ◌<◌, cond, List, [], ◌∷◌, length, take, drop}
-use Rattle.std.proofs.Common.{get_or, refl, sym, ◌∙◌, ap, subst, arith, true, false, Bool, ◌==◌}
+use Rattle.std.proofs.Common.{get_or, refl, ◌∙◌, ap, subst, arith, true, false, Bool, ◌==◌}
 use Rattle.std.proofs.lemmas.Bool.{ne_eqb, eq-eqb}
 use Rattle.std.specs.Prelude.{Option, None, Some}
 use Rattle.std.specs.Option.{option_map}
-use Rattle.acct_desk.specs.Paths.{segments, in_front, LoginPath, login_segments}
+use Rattle.acct_desk.specs.Paths.{segments, in_front, login_segments, one_of}
 use Rattle.acct_desk.specs.inner.Cut.{cut}
 
 abbrev Parts : Type 0
@@ -149,3 +149,10 @@ six_segments path account rest class more login last station seconds parts p q r
     ∙ ap (λ u. account ∷ class ∷ login ∷ u) (cut_segments last (station, seconds) s
     ∙ ap (λ u. station ∷ u) (cut_segments seconds parts t
     ∙ ap (λ u. parts.0 ∷ u) one.2)))
+
+-- octets that are cut are not one segment
+pub two_or_more : (octets : List ℕ) (parts : Parts) → cut octets ≡ Some parts
+    → one_of (segments octets) ≡ None
+two_or_more octets parts is =
+    let next = a_segment parts.1 in
+    ap one_of (cut_segments octets parts is ∙ ap (λ s. parts.0 ∷ s) next.2)

@@ -11,3 +11,4 @@ pub mod PartLemmas
 pub mod HeadEndLemmas
 pub mod ReadingLemmas
 pub mod LoginLaws
+pub mod Parts

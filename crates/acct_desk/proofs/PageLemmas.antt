@@ -76,7 +76,7 @@ overrun_plain : (account : List ℕ) (n : ℕ) → has_float (overrun_item accou
 unfolding overrun_item
 overrun_plain account n = refl
 
-cons_plain : (o : Option Data) (rest : List Data) → ((d : Data) → o ≡ Some d → has_float d ≡ false)
+pub cons_plain : (o : Option Data) (rest : List Data) → ((d : Data) → o ≡ Some d → has_float d ≡ false)
     → items_have_float (items_of rest) ≡ false
     → items_have_float (items_of (cons_option o rest)) ≡ false
 cons_plain None rest one plain = plain

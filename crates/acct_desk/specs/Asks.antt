@@ -1,10 +1,11 @@
 -- What a request asks for. The first of the desk's cases that applies settles it without the book.
 -- If none does, it is a request to the book.
 use Rattle.std.specs.Prelude.{◌≡◌, ℕ, ◌==◌, List, length, slice_range, codes, bytes_eq, Option}
-use Rattle.std.specs.Prelude.{Some, None, option_and_then, if◌then◌else◌}
+use Rattle.std.specs.Prelude.{Some, None, option_and_then, option_map, if◌then◌else◌}
 use Rattle.std.specs.List.{before_first, slice_get}
 use Rattle.std.specs.Str.{is_utf8}
 use Rattle.httparse.specs.Grammar.{RequestHead, print_request}
+use Rattle.percent_encoding.specs.Percent.{percent_decode}
 use Rattle.serde_json.specs.Data.{Data}
 use Rattle.serde_json.specs.Read as json
 use Rattle.acct_model.specs.declared.plan.Plan.{Plan}
@@ -27,13 +28,15 @@ use Rattle.acct_desk.specs.declared.asking.Refusal.TheVariants as refusal
 use Rattle.acct_desk.specs.Request.{IsHeadOf, reach_of, reach_of_fields, fields_of, values_of}
 use Rattle.acct_desk.specs.Routes.{endpoint_of, method_of}
 use Rattle.acct_desk.specs.Keys.{KeysFacts, role_at}
-use Rattle.acct_desk.specs.Paths.{LoginPath, login_path}
+use Rattle.acct_desk.specs.Paths.{LoginPath, login_path, part_path}
 use Rattle.acct_desk.specs.Logins.{Login, login_asked}
 use Rattle.acct_desk.specs.TopUpBodies.{topup_of_value}
 
--- what the front of a site asks: what a login may use
+-- what the front of a site asks: what a login may use, or the open sessions of a part of the
+-- accounts below 0, from the first or after one
 pub data Query : Type 0 where
   login : Login → Query
+  overdrawn : Option (List ℕ) → Query
 
 -- what a request asks for: nothing that the desk accepts, a page of the key's account, the
 -- overdrawn accounts, a question of the site's front, or a top-up
@@ -67,6 +70,11 @@ ask_of_path (Some signing) plans moment None = refused refusal.NoPath
 ask_of_path (Some signing) plans moment (Some path) =
     ask_of_login (login_asked signing.secrets.secret plans moment path)
 
+-- what the path of a part asks for
+abbrev pub ask_of_part : Option (Option (List ℕ)) → Ask
+ask_of_part None = refused refusal.NoPath
+ask_of_part (Some after) = look (overdrawn (option_map percent_decode after))
+
 -- what a request with this role asks for at this endpoint
 abbrev pub ask_of_role : KeysFacts → List Plan → Endpoint → Role → List ℕ → List ℕ → ℕ → Ask
 ask_of_role keys plans Balance (Account account) path body moment = me page.Balance account
@@ -76,6 +84,8 @@ ask_of_role keys plans TopUps Cashier path body moment = ask_of_json (json_of bo
 ask_of_role keys plans Overruns Cashier path body moment = overruns
 ask_of_role keys plans at.Logins role.Logins path body moment =
     ask_of_path keys.signing plans moment (login_path path)
+ask_of_role keys plans at.OpenSessions role.Logins path body moment =
+    ask_of_part (part_path path)
 ask_of_role keys plans endpoint other path body moment = refused refusal.NotAllowed
 
 abbrev pub ask_of_key : KeysFacts → List Plan → Endpoint → Option Role → List ℕ → List ℕ → ℕ → Ask

@@ -19,7 +19,8 @@ use Rattle.acct_book.specs.Walk.{AreAllPast}
 use Rattle.acct_desk.specs.declared.asking.Page.{Page}
 use Rattle.acct_desk.specs.declared.asking.Page.TheVariants.{Balance, Sessions, TopUps}
 use Rattle.acct_desk.specs.Logins.{Login}
-use Rattle.acct_desk.specs.Asks.{Ask, refused, me, overruns, look, credit, Query, login}
+use Rattle.acct_desk.specs.Asks.{Ask, refused, me, overruns, look, credit, Query, login, overdrawn}
+use Rattle.acct_desk.specs.Overdrawn.{IsOverdrawnTold}
 use Rattle.acct_desk_pages.specs.Bodies.{balance_body, sessions_body, topups_body, overruns_body}
 use Rattle.acct_desk_pages.specs.Logins.{is_short, login_body}
 use Rattle.acct_desk.specs.Responses.{refusal_response}
@@ -57,6 +58,8 @@ IsLoginTold part asked told = MatchBool (is_short asked.plan part.balance)
 abbrev pub IsQueryTold : List Plan → History → Query → ℕ × Data → Type 0
 IsQueryTold plans history (login asked) told =
     IsLoginTold (part_of plans history asked.account) asked told
+IsQueryTold plans history (overdrawn after) told = IsOverdrawnTold (known_balance plans history)
+    (λ account rows. AreRowsIn (part_of plans history account) rows) after told
 
 -- the status and the body of the response over a history, by what the request asks for
 abbrev pub IsTold : List Plan → History → Ask → ℕ × Data → Type 0

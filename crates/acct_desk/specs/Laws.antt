@@ -6,8 +6,7 @@ use Rattle.acct_book.specs.Effect.{Effect}
 use Rattle.acct_book.specs.Part.{part_of}
 use Rattle.acct_desk.specs.declared.asking.Page.{Page}
 use Rattle.acct_desk.specs.Keys.{KeysFacts}
-use Rattle.acct_desk.specs.Logins.{Login}
-use Rattle.acct_desk.specs.Asks.{Ask, Asks, me, look, login}
+use Rattle.acct_desk.specs.Asks.{Ask, Asks, me}
 use Rattle.acct_desk.specs.Handling.{AnswersAsk, TellsAsk}
 use Rattle.acct_desk_pages.specs.Responses.{unavailable_response}
 

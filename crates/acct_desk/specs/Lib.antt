@@ -7,6 +7,7 @@ pub mod Reading
 pub mod TopUpBodies
 pub mod Logins
 pub mod Asks
+pub mod Overdrawn
 pub mod Responses
 pub mod Handling
 pub mod Laws

@@ -40,3 +40,21 @@ login_segments other = None
 -- the login at a path
 abbrev pub login_path : List ℕ → Option LoginPath
 login_path path = option_and_then login_segments (option_map segments (behind (codes "/logins/") path))
+
+-- ---- accounts below 0
+
+-- one segment
+abbrev pub one_of : List (List ℕ) → Option (List ℕ)
+one_of (segment ∷ []) = Some segment
+one_of other = None
+
+-- the account at a path after which a part of the accounts begins, as it stands in it
+abbrev pub after_path : List ℕ → Option (List ℕ)
+after_path path =
+    option_and_then one_of (option_map segments (behind (codes "/overruns/sessions/after/") path))
+
+-- the path of a part: of the first, or of the one after an account
+abbrev pub part_path : List ℕ → Option (Option (List ℕ))
+part_path path =
+    if bytes_eq path (codes "/overruns/sessions") then Some None
+    else option_map Some (after_path path)

@@ -1,14 +1,14 @@
 -- The paths of the desk.
 use Rattle.std.specs.Prelude.{ℕ, List, [], ◌∷◌, Option, Some, None, codes, bytes_eq, if◌then◌else◌}
-use Rattle.std.specs.Prelude.{◌&&◌, is_some}
+use Rattle.std.specs.Prelude.{is_some}
 use Rattle.std.specs.Option.{option_or}
 use Rattle.matchit.specs.Rows.{RowsOf}
 use Rattle.matchit.specs.Router.{RouteOf}
 use Rattle.acct_desk.specs.declared.routes.Endpoint.{Endpoint}
 use Rattle.acct_desk.specs.declared.routes.Endpoint.TheVariants.{Balance, Sessions, MyTopUps}
-use Rattle.acct_desk.specs.declared.routes.Endpoint.TheVariants.{TopUps, Overruns, Logins}
+use Rattle.acct_desk.specs.declared.routes.Endpoint.TheVariants.{TopUps, Overruns, Logins, OpenSessions}
 use Rattle.acct_desk.specs.Keys.{KeysFacts, serves_logins}
-use Rattle.acct_desk.specs.Paths.{login_path}
+use Rattle.acct_desk.specs.Paths.{login_path, part_path}
 
 -- the endpoint at a path that is always there
 abbrev pub fixed_endpoint : List ℕ → Option Endpoint
@@ -20,10 +20,15 @@ fixed_endpoint path =
     else if bytes_eq (codes "/topups") path then Some TopUps
     else None
 
--- the endpoint of a login, at a desk that tells of logins
+-- what the site's front asks, at a desk that tells of logins
+abbrev pub front_endpoint : List ℕ → Option Endpoint
+front_endpoint path =
+    if is_some (login_path path) then Some Logins
+    else if is_some (part_path path) then Some OpenSessions
+    else None
+
 abbrev pub login_endpoint : KeysFacts → List ℕ → Option Endpoint
-login_endpoint keys path =
-    if serves_logins keys && is_some (login_path path) then Some Logins else None
+login_endpoint keys path = if serves_logins keys then front_endpoint path else None
 
 -- the endpoint at a path of a desk with these keys
 abbrev pub endpoint_of : KeysFacts → List ℕ → Option Endpoint
@@ -37,6 +42,7 @@ method_of MyTopUps = codes "GET"
 method_of TopUps = codes "POST"
 method_of Overruns = codes "GET"
 method_of Logins = codes "GET"
+method_of OpenSessions = codes "GET"
 
 -- a route without parameters
 abbrev pub literal_row : List ℕ → Endpoint → List ℕ × RouteOf Endpoint

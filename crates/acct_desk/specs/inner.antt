@@ -4,6 +4,7 @@ pub mod Cut
 pub mod Head
 pub mod LoginView
 pub mod Pages
+pub mod Part
 pub mod Reading
 pub mod Request
 pub mod TopUpAnswers

@@ -5,15 +5,15 @@ ghost use Rattle.httparse.specs.Spans.{IsHeaderWithin, IsWithin, span_bytes, hea
 ghost use Rattle.acct_desk.specs.Request.{reach_of};
 ghost use Rattle.acct_desk.specs.Asks.{Ask as Asked, json_of, ask_of_json, ask_of_role};
 ghost use Rattle.acct_desk.specs.Asks.{ask_of_endpoint, path_of, role_of_fields, ask_of_fields};
-ghost use Rattle.acct_desk.specs.Asks.{ask_of_reach, refused, Asks, ask_of_path};
+ghost use Rattle.acct_desk.specs.Asks.{ask_of_reach, refused, Asks, ask_of_path, ask_of_part};
 ghost use Rattle.acct_desk.specs.Paths as paths;
 ghost use Rattle.acct_desk.specs.inner.AskView.{ask_view};
 
 use crate::framing::{HEAD_LIMIT, Reach, front_of, reach_by_fields};
 use crate::head::{FIELD_LIMIT, head_of, values_named};
 use crate::keys::{Keys, Role};
-use crate::login::{Login, login_asked};
-use crate::login_path::login_path;
+use crate::login::{Login, decoded, login_asked};
+use crate::login_path::{login_path, part_path};
 use crate::routes::{Endpoint, method_text};
 use crate::top_up_body::{BodyError, topup_of_body};
 use acct_model::{NoMemory, Plans, TopUp};
@@ -52,6 +52,8 @@ pub(crate) enum Ask<'k> {
     Overruns,
     // What a login may use.
     Login(Login<'k>),
+    // The open sessions of accounts below 0, after this account.
+    Overdrawn(Option<Vec<u8>>),
     // To credit a voucher.
     Credit(TopUp),
 }
@@ -239,6 +241,7 @@ fn ask_of_role<'k>(
         (Endpoint::Overruns, Role::Cashier) => Ok(Ask::Overruns),
         (Endpoint::TopUps, Role::Cashier) => ask_of_post(alloc, what.body, what.moment),
         (Endpoint::Logins, Role::Logins) => ask_of_path(alloc, keys, plans, what.path, what.moment),
+        (Endpoint::OpenSessions, Role::Logins) => ask_of_part(alloc, what.path),
         _ => Ok(Ask::Refused(Refusal::NotAllowed)),
     }
 }
@@ -264,6 +267,20 @@ fn ask_of_path<'k>(
         Ok(Some(login)) => Ok(Ask::Login(login)),
         Ok(None) => Ok(Ask::Refused(Refusal::BadLogin)),
         Err(_) => Err(NoMemory),
+    }
+}
+
+// Returns what the path of a part asks for.
+fn ask_of_part<'k>(alloc: Global, path: &[u8]) -> Result<Ask<'k>, NoMemory>
+    ensures { IfOk result (λ ask. ask_view ask ≡ ask_of_part (paths.part_path path.now)) }
+{
+    match part_path(path) {
+        None => Ok(Ask::Refused(Refusal::NoPath)),
+        Some(None) => Ok(Ask::Overdrawn(None)),
+        Some(Some(account)) => match decoded(alloc, account) {
+            Ok(account) => Ok(Ask::Overdrawn(Some(account))),
+            Err(_) => Err(NoMemory),
+        },
     }
 }
 

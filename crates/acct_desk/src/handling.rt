@@ -1,7 +1,7 @@
 //! The desk's answers.
-ghost use Rattle.std.specs.Prelude.{◌≡◌, ◌<◌, ◌^◌, List, IfOk};
+ghost use Rattle.std.specs.Prelude.{◌≡◌, ◌<◌, ◌^◌, List, IfOk, option_map};
 ghost use Rattle.acct_model.specs.declared.plan.Plan.{Plan};
-ghost use Rattle.acct_desk.specs.Asks.{Ask as Asked, Asks, me, overruns, look, login, credit};
+ghost use Rattle.acct_desk.specs.Asks.{Ask as Asked, Asks, me, overruns, look, login, overdrawn, credit};
 ghost use Rattle.acct_desk.specs.Handling.{Handles};
 ghost use Rattle.acct_desk.specs.Responses.{refusal_response, recorded_response};
 ghost use Rattle.acct_desk.specs.inner.LoginView.{login_view};
@@ -11,7 +11,8 @@ use crate::asking::{Ask, Page, Refusal, ask_of_octets};
 use crate::keys::Keys;
 use crate::login::Login;
 use crate::pages::{
-    balance_page, login_page, overruns_page, page_octets, sessions_page, told_octets, topups_page,
+    balance_page, login_page, open_sessions_page, overruns_page, page_octets, sessions_page,
+    told_octets, topups_page,
 };
 use crate::refusals::refusal_octets;
 use acct_book::{Book, RecordError, Recorded, record};
@@ -53,6 +54,7 @@ pub fn handle<B: Book>(
         Ask::Me(page, account) => tell_page(alloc, plans, book, page, account),
         Ask::Overruns => tell_overruns(alloc, book),
         Ask::Login(login) => tell_login(alloc, book, &login),
+        Ask::Overdrawn(after) => tell_open_sessions(alloc, book, after),
         Ask::Credit(topup) => take_topup(alloc, plans, book, topup),
     }
 }
@@ -97,6 +99,18 @@ fn tell_login<B: Book>(alloc: Global, book: &mut B, asked: &Login<'_>) -> Result
         → Handles B.Book plans (look (login (login_view asked.now))) book.old book.new result }
 {
     told_octets(alloc, login_page(alloc, book, asked))
+}
+
+// Returns the open sessions of accounts below 0.
+fn tell_open_sessions<B: Book>(
+    alloc: Global,
+    book: &mut B,
+    after: Option<Vec<u8>>,
+) -> Result<Vec<u8>, NoMemory>
+    ensures { (plans : List Plan) → Handles B.Book plans
+        (look (overdrawn (option_map (λ a. a.items) after))) book.old book.new result }
+{
+    page_octets(alloc, open_sessions_page(alloc, book, after))
 }
 
 // Records a top-up. All its possible responses are made before.

@@ -8,8 +8,7 @@ ghost use Rattle.acct_desk.specs.Keys.{lets_logins, serves_logins};
 ghost use Rattle.acct_desk.specs.KeyFaults.{key_fault, keys_fault, IsKeysError, ArePlaces};
 ghost use Rattle.acct_desk.specs.Routes.{endpoint_of, login_endpoint};
 
-use crate::login_path::login_path;
-use crate::routes::{Endpoint, endpoint_at, router};
+use crate::routes::{Endpoint, endpoint_at, front_endpoint, router};
 use acct_model::{Octets, StampSecrets, Text};
 use matchit::{InsertError, Router};
 use std::alloc::{AllocError, Global};
@@ -253,12 +252,12 @@ impl Keys {
         }
     }
 
-    // The endpoint of a login, at a desk that tells of logins.
+    // What the site's front asks, at a desk that tells of logins.
     fn login_endpoint(&self, path: &str) -> Option<Endpoint>
         ensures { result ≡ login_endpoint self.now path.now }
     {
-        if self.serves_logins() && login_path(path.as_bytes()).is_some() {
-            Some(Endpoint::Logins)
+        if self.serves_logins() {
+            front_endpoint(path.as_bytes())
         } else {
             None
         }

@@ -175,7 +175,7 @@ fn signed_text(
 }
 
 // The octets that a segment spells.
-fn decoded(alloc: Global, segment: &[u8]) -> Result<Vec<u8>, AllocError>
+pub(crate) fn decoded(alloc: Global, segment: &[u8]) -> Result<Vec<u8>, AllocError>
     ensures { IfOk result (λ octets. octets.items ≡ percent.percent_decode segment.now) }
 {
     let mut octets = Vec::new(alloc);

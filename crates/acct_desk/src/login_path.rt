@@ -1,11 +1,16 @@
-//! The path of a login.
+//! The paths that the site's front asks for.
 ghost use Rattle.std.specs.Prelude.{◌≡◌, option_map};
+ghost use Rattle.std.specs.Option.{option_copied};
 ghost use Rattle.acct_desk.specs.Paths as spec;
 ghost use Rattle.acct_desk.specs.inner.Cut.{cut};
 ghost use Rattle.acct_desk.specs.inner.LoginView.{path_view};
 
-// The beginning of the path.
-const START: &[u8] = b"/logins/";
+// The beginnings of the paths.
+const LOGINS: &[u8] = b"/logins/";
+
+const OPEN_SESSIONS: &[u8] = b"/overruns/sessions";
+
+const AFTER: &[u8] = b"/overruns/sessions/after/";
 
 // The segments of a login's path, as they stand in it.
 #[derive(Clone, Copy)]
@@ -21,7 +26,37 @@ pub(crate) struct LoginPath<'p> {
 pub(crate) fn login_path(path: &[u8]) -> Option<LoginPath<'_>>
     ensures { option_map path_view result ≡ spec.login_path path.now }
 {
-    login_segments(behind(START, path)?)
+    login_segments(behind(LOGINS, path)?)
+}
+
+// The path of a part of the accounts: of the first, or of the one after an account.
+pub(crate) fn part_path(path: &[u8]) -> Option<Option<&[u8]>>
+    ensures { option_map option_copied result ≡ spec.part_path path.now }
+{
+    if path == OPEN_SESSIONS {
+        return Some(None);
+    }
+    match after_path(path) {
+        Some(account) => Some(Some(account)),
+        None => None,
+    }
+}
+
+// The account after which the part begins.
+fn after_path(path: &[u8]) -> Option<&[u8]>
+    ensures { option_copied result ≡ spec.after_path path.now }
+{
+    one_of(behind(AFTER, path)?)
+}
+
+// The only segment.
+fn one_of(path: &[u8]) -> Option<&[u8]>
+    ensures { option_copied result ≡ spec.one_of (spec.segments path.now) }
+{
+    match cut(path) {
+        Some(_) => None,
+        None => Some(path),
+    }
 }
 
 // What a path has behind its beginning, if it begins so.

@@ -1,6 +1,6 @@
 //! The pages that the desk makes from the book.
 ghost use Rattle.std.specs.Prelude.{◌≡◌, ◌≢◌, false, List, [], ◌∷◌, ◌++◌, Err, IfOk, OnOk, IsOk};
-ghost use Rattle.std.specs.Prelude.{IsErr, map, option_map, codes, string_bytes};
+ghost use Rattle.std.specs.Prelude.{IsErr, map, option_map, codes, string_bytes, ◌<◌, ◌^◌};
 ghost use Rattle.std.specs.List.{filter_map};
 ghost use Rattle.std.specs.Option.{option_copied};
 ghost use Rattle.std.specs.Result.{ForOk};
@@ -8,7 +8,7 @@ ghost use Rattle.serde_json.specs.Data.{array, object, member, no_members};
 ghost use Rattle.serde_json.specs.View.{view, items_view};
 ghost use Rattle.serde_json.specs.Written.{has_float};
 ghost use Rattle.acct_model.specs.declared.plan.Plan.{Plan};
-ghost use Rattle.acct_desk.specs.Asks.{me, overruns, look, login};
+ghost use Rattle.acct_desk.specs.Asks.{me, overruns, look, login, overdrawn};
 ghost use Rattle.acct_desk_pages.specs.Bodies.{balance_body, overrun_in};
 ghost use Rattle.acct_desk_pages.specs.Logins.{login_body};
 ghost use Rattle.acct_desk_pages.specs.Responses.{error_body};
@@ -16,6 +16,7 @@ ghost use Rattle.acct_desk.specs.declared.asking.Page.TheVariants as page;
 ghost use Rattle.acct_desk.specs.inner.LoginView.{login_view};
 ghost use Rattle.acct_desk.specs.inner.Pages.{Shows, ShowsBy, IsPageResponse, IsResponseBy};
 ghost use Rattle.acct_desk.specs.inner.Pages.{told_of};
+ghost use Rattle.acct_desk.specs.inner.Part.{Adds};
 
 use crate::login::Login;
 use acct_book::{Book, Row, Unavailable, WALK_LIMIT, overrun};
@@ -24,6 +25,7 @@ use acct_desk_pages::bodies::{
 };
 use acct_desk_pages::json_response::{error_value, respond, unavailable_octets};
 use acct_desk_pages::login::{is_short, login_value};
+use acct_desk_pages::overdrawn::{add_open_sessions, open_sessions_value};
 use acct_model::{NoMemory, Plans};
 use http::StatusCode;
 use serde_json::{Value, json};
@@ -162,6 +164,58 @@ pub(crate) fn overruns_page<B: Book>(alloc: Global, book: &mut B) -> Result<Valu
         }
     }
     Err(PageError::Unavailable)
+}
+
+// The most accounts of a part, and the rows with which it is full.
+const PART_ACCOUNTS: usize = 5000;
+
+const PART_ROWS: usize = 1000;
+
+// The open sessions of accounts below 0, a part of the accounts at a time. It holds those sessions,
+// and the rows of one account.
+pub(crate) fn open_sessions_page<B: Book>(
+    alloc: Global,
+    book: &mut B,
+    after: Option<Vec<u8>>,
+) -> Result<Value, PageError>
+    ensures { (plans : List Plan) → Shows plans
+        (look (overdrawn (option_map (λ a. a.items) after))) B.Book book.old book.new result }
+{
+    let mut found = Vec::new(alloc);
+    let mut last = after;
+    let mut rows = 0;
+    for _ in 0..PART_ACCOUNTS {
+        let Some(entry) = book.next_account(start_of(&last))? else {
+            return open_sessions_value(alloc, None, found);
+        };
+        rows += add_account(alloc, book, &mut found, &entry)?;
+        let (account, _) = entry;
+        last = Some(account);
+        if rows >= PART_ROWS {
+            break;
+        }
+    }
+    open_sessions_value(alloc, start_of(&last), found)
+}
+
+// Adds the open sessions of an account below 0. Tells how many rows were looked at for it.
+fn add_account<B: Book>(
+    alloc: Global,
+    book: &mut B,
+    found: &mut Vec<Value>,
+    entry: &(Vec<u8>, i64),
+) -> Result<usize, PageError>
+    ensures adds { Adds B.Book entry.now.0.items entry.now.1 (map view found.old.items)
+        (map view found.new.items) book.old book.new result }
+    ensures fits { IfOk result (λ rows. rows < 2 ^ 63) }
+{
+    let (account, balance) = entry;
+    if *balance >= 0 {
+        return Ok(0);
+    }
+    let rows = book.sessions_of(account)?;
+    add_open_sessions(alloc, found, &rows)?;
+    Ok(rows.len())
 }
 
 // The account after which a walk continues.

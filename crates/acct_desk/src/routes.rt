@@ -1,7 +1,8 @@
 //! The paths of the desk.
 ghost use Rattle.std.specs.Prelude.{◌≡◌, IfOk};
-ghost use Rattle.acct_desk.specs.Routes.{fixed_endpoint, desk_rows, method_of};
+ghost use Rattle.acct_desk.specs.Routes.{fixed_endpoint, front_endpoint, desk_rows, method_of};
 
+use crate::login_path::{login_path, part_path};
 use matchit::{InsertError, Router};
 use std::alloc::Global;
 
@@ -20,6 +21,8 @@ pub enum Endpoint {
     Overruns,
     /// `/logins/ACCOUNT/CLASS[/LOGIN[/STATION/SECONDS]]`: what a login may use, and its stamp.
     Logins,
+    /// `/overruns/sessions[/after/ACCOUNT]`: the open sessions of accounts whose balance is below 0.
+    OpenSessions,
 }
 
 // The router of the five paths that are always there.
@@ -43,6 +46,19 @@ pub(crate) fn endpoint_at(router: &Router<Endpoint>, path: &str) -> Option<Endpo
     match router.at(path) {
         Ok(found) => Some(*found.value),
         Err(_) => None,
+    }
+}
+
+// What the site's front asks at a path.
+pub(crate) fn front_endpoint(path: &[u8]) -> Option<Endpoint>
+    ensures { result ≡ front_endpoint path.now }
+{
+    if login_path(path).is_some() {
+        Some(Endpoint::Logins)
+    } else if part_path(path).is_some() {
+        Some(Endpoint::OpenSessions)
+    } else {
+        None
     }
 }
 

@@ -1,1 +1,2 @@
 pub mod Stations
+pub mod LastCuts

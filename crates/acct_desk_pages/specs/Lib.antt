@@ -1,3 +1,4 @@
 pub mod Responses
 pub mod Bodies
 pub mod Logins
+pub mod Overdrawn

@@ -4,3 +4,4 @@
 pub mod bodies;
 pub mod json_response;
 pub mod login;
+pub mod overdrawn;

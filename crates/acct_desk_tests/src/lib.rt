@@ -2,6 +2,8 @@
 #![tactic(auto)]
 
 #[cfg(test)]
+mod front_desk;
+#[cfg(test)]
 mod keys;
 #[cfg(test)]
 mod limits;
@@ -9,6 +11,8 @@ mod limits;
 mod logins;
 #[cfg(test)]
 mod many;
+#[cfg(test)]
+mod overdrawn;
 #[cfg(test)]
 mod pages;
 #[cfg(test)]

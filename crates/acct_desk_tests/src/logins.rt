@@ -1,11 +1,11 @@
 //! What logins may use. The signatures are those of another program, under the secret
 //! `a-secret-of-twenty-four.`.
+use crate::front_desk::{desk_over, keys, plans, request, signing, tells};
 use crate::sample_desk::Desk;
 use crate::texts::{GET_ONLY, NO_KEY, NO_PATH, NOT_ALLOWED, Turn, UNAVAILABLE};
 use acct_book::{Book, MemBook, Row, SessionState};
 use acct_book_fakes::FailingBook;
-use acct_desk::{DeskKey, Keys, Role, Signing};
-use acct_model::{Count, NoMemory, Octets, Plan, Plans, StampSecret, StampSecrets, Text};
+use acct_model::{Octets, Text};
 use acct_site::sample_keys;
 use std::alloc::Global;
 use std::test::Fail;
@@ -21,17 +21,6 @@ static LINES: [Line; 6] = [
     (b"s4", b"02-00-5e-01", 999, SessionState::Live),
     (b"s5", b"02-00-5e-05", 998, SessionState::Stopped),
     (b"s6", b"02-00-5e-06", 997, SessionState::Closed),
-];
-
-// A plan as (class, block, unit, count).
-type Price = (&'static [u8], u64, u64, Count);
-
-static PRICES: [Price; 5] = [
-    (b"gold", 1_048_576, 10, Count::Both),
-    (b"default", 1_000_000, 5, Count::Both),
-    (b"night", 300, 7, Count::Output),
-    (b"day", 9_007_199_254_740_992, 1, Count::Input),
-    (b"a free plan", 3, 0, Count::Input),
 ];
 
 // A request's target, and the body of its response.
@@ -190,40 +179,6 @@ static KEYED: [Turn; 9] = [
     ),
 ];
 
-fn plans(alloc: Global) -> Result<Plans, Fail> {
-    let mut plans = Vec::new(alloc);
-    for price in PRICES.iter() {
-        let (class, block, unit, count) = *price;
-        let class = Octets::from_slice(alloc, class)?;
-        plans.push(Plan {
-            class,
-            block,
-            unit,
-            count,
-        })?;
-    }
-    Ok(Plans::new(plans)?)
-}
-
-fn signing(alloc: Global) -> Result<Signing, Fail> {
-    let octets = Octets::from_slice(alloc, b"a-secret-of-twenty-four.")?;
-    match StampSecret::new(octets) {
-        Some(secret) => Ok(Signing {
-            secrets: StampSecrets { secret, old: None },
-        }),
-        None => Err(Fail::from("no secret")),
-    }
-}
-
-// The sample's keys, and one for logins.
-fn keys(alloc: Global) -> Result<Keys, Fail> {
-    let mut keys = sample_keys(alloc)?;
-    let token = Text::from_str(alloc, "front-key-000001")?;
-    let role = Role::Logins;
-    keys.push(alloc, DeskKey { token, role })?;
-    Ok(keys)
-}
-
 fn row_of(alloc: Global, line: &Line) -> Result<Row, Fail> {
     let (session, calling, last, state) = *line;
     Ok(Row {
@@ -253,40 +208,8 @@ fn book(alloc: Global) -> Result<MemBook, Fail> {
     Ok(book)
 }
 
-// A request of the site's front.
-fn request(alloc: Global, target: &str) -> Result<Vec<u8>, Fail> {
-    let text = format!(in alloc; "GET {target} HTTP/1.1\r\nDesk-Key: front-key-000001\r\n\r\n")?;
-    Ok(text.into_bytes())
-}
-
-fn response(alloc: Global, status: &str, body: &str) -> Result<Vec<u8>, Fail> {
-    let size = body.len();
-    let text = format!(in alloc;
-        "HTTP/1.1 {status}\r\nContent-Type: application/json\r\nContent-Length: {size}\r\n\
-        Connection: close\r\n\r\n{body}"
-    )?;
-    Ok(text.into_bytes())
-}
-
-// Whether the target gets a response of this status with this body.
-fn tells<B: Book + Drop>(
-    alloc: Global,
-    desk: &mut Desk<B>,
-    target: &str,
-    status: &str,
-    body: &str,
-) -> Result<bool, Fail> {
-    let want = response(alloc, status, body)?;
-    desk.answers(alloc, &request(alloc, target)?, &want)
-}
-
 fn desk(alloc: Global) -> Result<Desk<MemBook>, Fail> {
-    let keys = keys(alloc)?.with_signing(Some(signing(alloc)?));
-    Ok(Desk {
-        book: book(alloc)?,
-        keys,
-        plans: plans(alloc)?,
-    })
+    desk_over(alloc, book(alloc)?)
 }
 
 #[test]
@@ -384,11 +307,7 @@ fn other_desks_have_no_logins(rt: HostRuntime) -> Result<(), Fail> {
 #[test]
 fn a_book_that_fails_is_unavailable(rt: HostRuntime) -> Result<(), Fail> {
     let alloc = rt.alloc();
-    let mut desk = Desk {
-        book: FailingBook::new(book(alloc)?, 0),
-        keys: keys(alloc)?.with_signing(Some(signing(alloc)?)),
-        plans: plans(alloc)?,
-    };
+    let mut desk = desk_over(alloc, FailingBook::new(book(alloc)?, 0))?;
     for calls in 1..3 {
         desk.book.calls_left = calls;
         assert!(rt; desk.answers(alloc, &request(alloc, TOLD[0].0)?, UNAVAILABLE)?);

@@ -1,5 +1,8 @@
+use Rattle.std.proofs.Common.{ℕ}
+use Rattle.std.specs.Prelude.{option_map, Vec}
+use Rattle.std.specs.Global.{Global}
 use Rattle.acct_model.specs.declared.shown.NoMemory.{NoMemory}
-use Rattle.acct_desk.specs.Asks.{refused, me, overruns, look, login, credit}
+use Rattle.acct_desk.specs.Asks.{refused, me, overruns, look, login, overdrawn, credit}
 use Rattle.acct_desk.specs.inner.LoginView.{login_view}
 use Rattle.acct_desk.proofs.HandleLemmas.{mute_handles, refused_handles}
 use Rattle.acct_desk.proofs.handling.handle.Goals as goal
@@ -41,6 +44,13 @@ returns-in-Login g c = (
   look (login (login_view c.in-Login.login)),
   rw c.in-Login.is at c.in-Ok.ensures.asks,
   c.tell_login.ensures c.args.plans.now,
+)
+
+pub returns-in-Overdrawn : goal.returns-in-Overdrawn
+returns-in-Overdrawn g c = (
+  look (overdrawn (option_map (λ (a : Vec ℕ Global). a.items) c.in-Overdrawn.after)),
+  rw c.in-Overdrawn.is at c.in-Ok.ensures.asks,
+  c.tell_open_sessions.ensures c.args.plans.now,
 )
 
 pub returns-in-Credit : goal.returns-in-Credit

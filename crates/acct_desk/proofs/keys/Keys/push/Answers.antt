@@ -1,4 +1,4 @@
-use Rattle.std.proofs.Common.{◌≡◌, ◌∙◌, ap, sym, None, ◌||◌, ◌∷◌, ◌++◌, [], refl, rules}
+use Rattle.std.proofs.Common.{◌≡◌, ◌∙◌, ap, sym, None, ◌||◌, refl, rules}
 use Rattle.std.specs.List.{list_any}
 use Rattle.acct_desk.specs.Keys.{is_for_logins}
 use Rattle.acct_desk.specs.KeyFaults.{key_fault}
