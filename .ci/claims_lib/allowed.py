@@ -125,6 +125,8 @@ ALLOWED = {
         "adm": "a group of the system",
         "/logins/ACCOUNT/CLASS[/LOGIN[/STATION/SECONDS]]": "a path of the desk, with its parts",
         "/overruns/sessions[/after/ACCOUNT]": "a path of the desk, with its parts",
+        "/accounts/ACCOUNT/PAGE": "a path of the desk, with its parts",
+        "/me/PAGE": "a path of the desk, with its parts",
         **each("nginx' paths", "/desk/", "/operator/", "/redeem/"),
         "revoke": "a command of radacctl key",
         **each("a member of settings.json", "url"),

@@ -39,7 +39,8 @@ CAUSES = (
 )
 
 # Whose key has a role.
-BEARERS = {"Account": "a guest's", "Cashier": "the cashier's", "Logins": "the front's"}
+BEARERS = {"Account": "a guest's", "Cashier": "the cashier's",
+           "Clerk": "the cashier's, with `accounts`", "Logins": "the front's"}
 
 
 def bodies():

@@ -4,7 +4,9 @@ use Rattle.std.proofs.Common.{get_or, refl, ◌∙◌, ap, subst, arith, true, f
 use Rattle.std.proofs.lemmas.Bool.{ne_eqb, eq-eqb}
 use Rattle.std.specs.Prelude.{Option, None, Some}
 use Rattle.std.specs.Option.{option_map}
-use Rattle.acct_desk.specs.Paths.{segments, in_front, login_segments, one_of}
+use Rattle.acct_desk.specs.declared.asking.Page.{Page}
+use Rattle.acct_desk.specs.Paths.{segments, in_front, login_segments, one_of, account_segments}
+use Rattle.acct_desk.specs.Paths.{page_named}
 use Rattle.acct_desk.specs.inner.Cut.{cut}
 
 abbrev Parts : Type 0
@@ -156,3 +158,25 @@ pub two_or_more : (octets : List ℕ) (parts : Parts) → cut octets ≡ Some pa
 two_or_more octets parts is =
     let next = a_segment parts.1 in
     ap one_of (cut_segments octets parts is ∙ ap (λ s. parts.0 ∷ s) next.2)
+
+-- ---- the page and the account that segments name, by where they are cut
+
+pub no_account : (path : List ℕ) → cut path ≡ None → account_segments (segments path) ≡ None
+no_account path p = ap account_segments (uncut_segments path p)
+
+-- the page, if its name is not cut
+abbrev pub page_if : List ℕ → Option Parts → Option Page → Option (Page × List ℕ)
+page_if account None page = option_map (λ found. (found, account)) page
+page_if account (Some parts) page = None
+
+pub account_by : (path account name : List ℕ) (more : Option Parts) (page : Option Page)
+    → cut path ≡ Some (account, name) → cut name ≡ more → page_named name ≡ page
+    → account_segments (segments path) ≡ page_if account more page
+account_by path account name None page p q r =
+    ap account_segments (cut_segments path (account, name) p
+    ∙ ap (λ s. account ∷ s) (uncut_segments name q))
+    ∙ ap (option_map (λ (found : Page). (found, account))) r
+account_by path account name (Some parts) page p q r =
+    let next = a_segment parts.1 in
+    ap account_segments (cut_segments path (account, name) p
+    ∙ ap (λ s. account ∷ s) (cut_segments name parts q ∙ ap (λ s. parts.0 ∷ s) next.2))

@@ -17,7 +17,7 @@ use Rattle.acct_desk.specs.declared.routes.Endpoint.TheVariants.{Balance, Sessio
 use Rattle.acct_desk.specs.declared.routes.Endpoint.TheVariants.{TopUps, Overruns}
 use Rattle.acct_desk.specs.declared.routes.Endpoint.TheVariants as at
 use Rattle.acct_desk.specs.declared.keys.Role.{Role}
-use Rattle.acct_desk.specs.declared.keys.Role.TheVariants.{Account, Cashier}
+use Rattle.acct_desk.specs.declared.keys.Role.TheVariants.{Account, Cashier, Clerk}
 use Rattle.acct_desk.specs.declared.keys.Role.TheVariants as role
 use Rattle.acct_desk.specs.declared.keys.DeskKey.{DeskKey}
 use Rattle.acct_desk.specs.declared.keys.Signing.{Signing}
@@ -28,7 +28,7 @@ use Rattle.acct_desk.specs.declared.asking.Refusal.TheVariants as refusal
 use Rattle.acct_desk.specs.Request.{IsHeadOf, reach_of, reach_of_fields, fields_of, values_of}
 use Rattle.acct_desk.specs.Routes.{endpoint_of, method_of}
 use Rattle.acct_desk.specs.Keys.{KeysFacts, role_at}
-use Rattle.acct_desk.specs.Paths.{LoginPath, login_path, part_path}
+use Rattle.acct_desk.specs.Paths.{LoginPath, login_path, part_path, account_path}
 use Rattle.acct_desk.specs.Logins.{Login, login_asked}
 use Rattle.acct_desk.specs.TopUpBodies.{topup_of_value}
 
@@ -38,8 +38,8 @@ pub data Query : Type 0 where
   login : Login → Query
   overdrawn : Option (List ℕ) → Query
 
--- what a request asks for: nothing that the desk accepts, a page of the key's account, the
--- overdrawn accounts, a question of the site's front, or a top-up
+-- what a request asks for: nothing that the desk accepts, a page of an account, the overdrawn
+-- accounts, a question of the site's front, or a top-up
 pub data Ask : Type 0 where
   refused : Refusal → Ask
   me : Page → List ℕ → Ask
@@ -75,6 +75,11 @@ abbrev pub ask_of_part : Option (Option (List ℕ)) → Ask
 ask_of_part None = refused refusal.NoPath
 ask_of_part (Some after) = look (overdrawn (option_map percent_decode after))
 
+-- what the path of a page of an account asks for: what the account's own key shows
+abbrev pub ask_of_account : Option (Page × List ℕ) → Ask
+ask_of_account None = refused refusal.NoPath
+ask_of_account (Some (page, account)) = me page (percent_decode account)
+
 -- what a request with this role asks for at this endpoint
 abbrev pub ask_of_role : KeysFacts → List Plan → Endpoint → Role → List ℕ → List ℕ → ℕ → Ask
 ask_of_role keys plans Balance (Account account) path body moment = me page.Balance account
@@ -82,6 +87,9 @@ ask_of_role keys plans Sessions (Account account) path body moment = me page.Ses
 ask_of_role keys plans MyTopUps (Account account) path body moment = me page.TopUps account
 ask_of_role keys plans TopUps Cashier path body moment = ask_of_json (json_of body) moment
 ask_of_role keys plans Overruns Cashier path body moment = overruns
+ask_of_role keys plans TopUps Clerk path body moment = ask_of_json (json_of body) moment
+ask_of_role keys plans Overruns Clerk path body moment = overruns
+ask_of_role keys plans at.Accounts Clerk path body moment = ask_of_account (account_path path)
 ask_of_role keys plans at.Logins role.Logins path body moment =
     ask_of_path keys.signing plans moment (login_path path)
 ask_of_role keys plans at.OpenSessions role.Logins path body moment =

@@ -3,7 +3,7 @@ use Rattle.std.specs.Prelude.{ℕ, nat_le, Bool, true, false, ◌&&◌, ◌||◌
 use Rattle.std.specs.Prelude.{bytes_eq, Option, None, option_map, is_some}
 use Rattle.std.specs.List.{list_all, list_any, find}
 use Rattle.acct_desk.specs.declared.keys.Role.{Role}
-use Rattle.acct_desk.specs.declared.keys.Role.TheVariants.{Account, Cashier, Logins}
+use Rattle.acct_desk.specs.declared.keys.Role.TheVariants.{Account, Cashier, Clerk, Logins}
 use Rattle.acct_desk.specs.declared.keys.DeskKey.{DeskKey}
 use Rattle.acct_desk.specs.declared.keys.Signing.{Signing}
 
@@ -38,6 +38,7 @@ role_at token keys = option_map (λ key. key.role) (find (has_token token) keys)
 abbrev pub lets_logins : Role → Bool
 lets_logins (Account account) = false
 lets_logins Cashier = false
+lets_logins Clerk = false
 lets_logins Logins = true
 
 abbrev pub is_for_logins : DeskKey → Bool
@@ -46,3 +47,17 @@ is_for_logins key = lets_logins key.role
 -- The desk tells of logins: it signs, and some key may ask about them.
 abbrev pub serves_logins : KeysFacts → Bool
 serves_logins keys = is_some keys.signing && list_any is_for_logins keys.list
+
+-- the bearer may see the pages of any account
+abbrev pub lets_accounts : Role → Bool
+lets_accounts (Account account) = false
+lets_accounts Cashier = false
+lets_accounts Clerk = true
+lets_accounts Logins = false
+
+abbrev pub is_for_accounts : DeskKey → Bool
+is_for_accounts key = lets_accounts key.role
+
+-- The desk shows accounts: some key may see them.
+abbrev pub shows_accounts : KeysFacts → Bool
+shows_accounts keys = list_any is_for_accounts keys.list

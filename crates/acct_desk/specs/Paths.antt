@@ -1,6 +1,8 @@
 -- Paths by their segments.
 use Rattle.std.specs.Prelude.{ℕ, ◌==◌, List, [], ◌∷◌, length, take, drop, codes, bytes_eq}
 use Rattle.std.specs.Prelude.{if◌then◌else◌, Option, Some, None, option_map, option_and_then}
+use Rattle.acct_desk.specs.declared.asking.Page.{Page}
+use Rattle.acct_desk.specs.declared.asking.Page.TheVariants as page
 
 -- an octet in front of the first segment
 abbrev pub in_front : ℕ → List (List ℕ) → List (List ℕ)
@@ -58,3 +60,23 @@ abbrev pub part_path : List ℕ → Option (Option (List ℕ))
 part_path path =
     if bytes_eq path (codes "/overruns/sessions") then Some None
     else option_map Some (after_path path)
+
+-- ---- pages of any account
+
+-- the page of this name
+abbrev pub page_named : List ℕ → Option Page
+page_named name =
+    if bytes_eq name (codes "balance") then Some page.Balance
+    else if bytes_eq name (codes "sessions") then Some page.Sessions
+    else if bytes_eq name (codes "topups") then Some page.TopUps
+    else None
+
+-- ACCOUNT/PAGE
+abbrev pub account_segments : List (List ℕ) → Option (Page × List ℕ)
+account_segments (account ∷ name ∷ []) = option_map (λ p. (p, account)) (page_named name)
+account_segments other = None
+
+-- the page and the account at a path, as it stands in it
+abbrev pub account_path : List ℕ → Option (Page × List ℕ)
+account_path path =
+    option_and_then account_segments (option_map segments (behind (codes "/accounts/") path))

@@ -6,9 +6,11 @@ ghost use Rattle.acct_desk.specs.Request.{reach_of};
 ghost use Rattle.acct_desk.specs.Asks.{Ask as Asked, json_of, ask_of_json, ask_of_role};
 ghost use Rattle.acct_desk.specs.Asks.{ask_of_endpoint, path_of, role_of_fields, ask_of_fields};
 ghost use Rattle.acct_desk.specs.Asks.{ask_of_reach, refused, Asks, ask_of_path, ask_of_part};
+ghost use Rattle.acct_desk.specs.Asks.{ask_of_account};
 ghost use Rattle.acct_desk.specs.Paths as paths;
 ghost use Rattle.acct_desk.specs.inner.AskView.{ask_view};
 
+use crate::account_path::account_path;
 use crate::framing::{HEAD_LIMIT, Reach, front_of, reach_by_fields};
 use crate::head::{FIELD_LIMIT, head_of, values_named};
 use crate::keys::{Keys, Role};
@@ -48,6 +50,8 @@ pub(crate) enum Ask<'k> {
     Refused(Refusal),
     // A page of the key's account.
     Me(Page, &'k [u8]),
+    // A page of the account that the path names.
+    Account(Page, Vec<u8>),
     // The overdrawn accounts.
     Overruns,
     // What a login may use.
@@ -238,8 +242,11 @@ fn ask_of_role<'k>(
             Page::TopUps,
             account.as_slice(),
         )),
-        (Endpoint::Overruns, Role::Cashier) => Ok(Ask::Overruns),
-        (Endpoint::TopUps, Role::Cashier) => ask_of_post(alloc, what.body, what.moment),
+        (Endpoint::Overruns, Role::Cashier | Role::Clerk) => Ok(Ask::Overruns),
+        (Endpoint::TopUps, Role::Cashier | Role::Clerk) => {
+            ask_of_post(alloc, what.body, what.moment)
+        }
+        (Endpoint::Accounts, Role::Clerk) => ask_of_account(alloc, what.path),
         (Endpoint::Logins, Role::Logins) => ask_of_path(alloc, keys, plans, what.path, what.moment),
         (Endpoint::OpenSessions, Role::Logins) => ask_of_part(alloc, what.path),
         _ => Ok(Ask::Refused(Refusal::NotAllowed)),
@@ -279,6 +286,19 @@ fn ask_of_part<'k>(alloc: Global, path: &[u8]) -> Result<Ask<'k>, NoMemory>
         Some(None) => Ok(Ask::Overdrawn(None)),
         Some(Some(account)) => match decoded(alloc, account) {
             Ok(account) => Ok(Ask::Overdrawn(Some(account))),
+            Err(_) => Err(NoMemory),
+        },
+    }
+}
+
+// Returns what the path of a page of an account asks for.
+fn ask_of_account<'k>(alloc: Global, path: &[u8]) -> Result<Ask<'k>, NoMemory>
+    ensures { IfOk result (λ ask. ask_view ask ≡ ask_of_account (paths.account_path path.now)) }
+{
+    match account_path(path) {
+        None => Ok(Ask::Refused(Refusal::NoPath)),
+        Some((page, account)) => match decoded(alloc, account) {
+            Ok(account) => Ok(Ask::Account(page, account)),
             Err(_) => Err(NoMemory),
         },
     }

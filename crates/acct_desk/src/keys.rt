@@ -1,13 +1,14 @@
 //! The keys of the desk: who may ask what.
 ghost use Rattle.std.specs.Prelude.{◌≡◌, ◌++◌, [], ◌∷◌, None, false, IfOk, IfErr, OnOk, OnErr};
 ghost use Rattle.std.specs.List.{list_all, list_any};
-ghost use Rattle.std.specs.Option.{option_copied};
+ghost use Rattle.std.specs.Option.{option_copied, option_or};
 ghost use Rattle.acct_model.specs.Faults.{fault_or};
 ghost use Rattle.acct_desk.specs.Keys.{is_token_octet, is_token_text, has_token, role_at, bare};
-ghost use Rattle.acct_desk.specs.Keys.{lets_logins, serves_logins};
+ghost use Rattle.acct_desk.specs.Keys.{lets_logins, serves_logins, lets_accounts, shows_accounts};
 ghost use Rattle.acct_desk.specs.KeyFaults.{key_fault, keys_fault, IsKeysError, ArePlaces};
-ghost use Rattle.acct_desk.specs.Routes.{endpoint_of, login_endpoint};
+ghost use Rattle.acct_desk.specs.Routes.{endpoint_of, login_endpoint, account_endpoint};
 
+use crate::account_path::account_path;
 use crate::routes::{Endpoint, endpoint_at, front_endpoint, router};
 use acct_model::{Octets, StampSecrets, Text};
 use matchit::{InsertError, Router};
@@ -27,6 +28,8 @@ pub enum Role {
     Account(Octets),
     /// Credit vouchers, and list the overdrawn accounts.
     Cashier,
+    /// The same, and ask for the balance, the sessions and the vouchers of any account.
+    Clerk,
     /// Ask what logins may use.
     Logins,
 }
@@ -36,6 +39,7 @@ impl Drop for Role {
         match self {
             Role::Account(_) => {}
             Role::Cashier => {}
+            Role::Clerk => {}
             Role::Logins => {}
         }
     }
@@ -248,8 +252,37 @@ impl Keys {
     {
         match endpoint_at(&self.router, path) {
             Some(endpoint) => Some(endpoint),
-            None => self.login_endpoint(path),
+            None => self.added_endpoint(path),
         }
+    }
+
+    // What is at a path for which some key has to be there.
+    fn added_endpoint(&self, path: &str) -> Option<Endpoint>
+        ensures { result ≡ option_or (login_endpoint self.now path.now)
+            (account_endpoint self.now path.now) }
+    {
+        match self.login_endpoint(path) {
+            Some(endpoint) => Some(endpoint),
+            None => self.account_endpoint(path),
+        }
+    }
+
+    // The pages of any account, at a desk that shows accounts.
+    fn account_endpoint(&self, path: &str) -> Option<Endpoint>
+        ensures { result ≡ account_endpoint self.now path.now }
+    {
+        if account_path(path.as_bytes()).is_some() && self.shows_accounts() {
+            Some(Endpoint::Accounts)
+        } else {
+            None
+        }
+    }
+
+    // Whether the desk shows accounts. Its cost grows with the number of keys.
+    fn shows_accounts(&self) -> bool
+        ensures { result ≡ shows_accounts self.now }
+    {
+        self.list.iter().any(|key| lets_accounts(&key.role))
     }
 
     // What the site's front asks, at a desk that tells of logins.
@@ -283,6 +316,13 @@ fn lets_logins(role: &Role) -> bool
     ensures { result ≡ lets_logins role.now }
 {
     matches!(role, Role::Logins)
+}
+
+// Whether a bearer may see the pages of any account.
+fn lets_accounts(role: &Role) -> bool
+    ensures { result ≡ lets_accounts role.now }
+{
+    matches!(role, Role::Clerk)
 }
 
 // Adds a key with a new token at the end of a list, and the token's place to the other places. If

@@ -1,6 +1,7 @@
 //! The account desk: HTTP requests about accounts, and the whole responses to them.
 #![tactic(auto)]
 
+mod account_path;
 mod asking;
 mod framing;
 mod handling;

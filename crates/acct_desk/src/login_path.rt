@@ -60,7 +60,7 @@ fn one_of(path: &[u8]) -> Option<&[u8]>
 }
 
 // What a path has behind its beginning, if it begins so.
-fn behind<'p>(start: &[u8], path: &'p [u8]) -> Option<&'p [u8]>
+pub(crate) fn behind<'p>(start: &[u8], path: &'p [u8]) -> Option<&'p [u8]>
     ensures { option_map (λ rest. rest.now) result ≡ spec.behind start.now path.now }
 {
     path.strip_prefix(start)
@@ -100,7 +100,7 @@ fn login_segments(path: &[u8]) -> Option<LoginPath<'_>>
 }
 
 // The octets before the first slash, and those behind it.
-fn cut(octets: &[u8]) -> Option<(&[u8], &[u8])>
+pub(crate) fn cut(octets: &[u8]) -> Option<(&[u8], &[u8])>
     ensures { option_map (λ parts. (parts.0.now, parts.1.now)) result ≡ cut octets.now }
 {
     for i in 0..octets.len() {

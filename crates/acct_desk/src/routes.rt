@@ -23,6 +23,8 @@ pub enum Endpoint {
     Logins,
     /// `/overruns/sessions[/after/ACCOUNT]`: the open sessions of accounts whose balance is below 0.
     OpenSessions,
+    /// `/accounts/ACCOUNT/PAGE`: what the account's own key shows at `/me/PAGE`.
+    Accounts,
 }
 
 // The router of the five paths that are always there.

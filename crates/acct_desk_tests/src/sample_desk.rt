@@ -90,7 +90,7 @@ impl<B: Book + Drop> Desk<B> {
     }
 }
 
-fn gold(alloc: Global, user: &[u8]) -> Result<Report, Fail> {
+pub(crate) fn gold(alloc: Global, user: &[u8]) -> Result<Report, Fail> {
     Ok(Report {
         client: Text::from_str(alloc, "ap1")?,
         session: Octets::from_slice(alloc, b"s2")?,

@@ -186,7 +186,7 @@ static REFUSED: [Refused; 50] = [
 ];
 
 // Texts that come after a plan `default`.
-static REFUSED_KEYS: [Refused; 21] = [
+static REFUSED_KEYS: [Refused; 27] = [
     ("key = [true]", "BadShape in Key 0"),
     ("key = [{token='al-key-0000000001'}]", "BadShape in Key 0"),
     (
@@ -235,6 +235,27 @@ static REFUSED_KEYS: [Refused; 21] = [
     ),
     (
         "key = [{token='al-key-0000000001', logins=false}]",
+        "BadKey in Key 0",
+    ),
+    ("key = [{token='', accounts=true}]", "BadShape in Key 0"),
+    (
+        "key = [{token='', account='al', accounts=true}]",
+        "BadShape in Key 0",
+    ),
+    (
+        "key = [{token='', logins=true, accounts=true}]",
+        "BadShape in Key 0",
+    ),
+    (
+        "key = [{token='', cashier=true, accounts='al'}]",
+        "BadShape in Key 0",
+    ),
+    (
+        "key = [{token='al-key-0000000001', cashier=true, accounts=false}]",
+        "BadKey in Key 0",
+    ),
+    (
+        "key = [{token='al-key-0000000001', cashier=false, accounts=true}]",
         "BadKey in Key 0",
     ),
     // A bad key before a table of the wrong shape.
@@ -503,5 +524,28 @@ fn are_counted(config: &Config) -> bool {
 #[test]
 fn plans_say_what_they_count(rt: HostRuntime) -> Result<(), Fail> {
     assert!(rt; are_counted(&config_of(rt.alloc(), COUNTED)?));
+    Ok(())
+}
+
+// A key of each role.
+const ROLES: &str = "key = [{token='logins-key-000001', logins=true},
+{accounts=true, token='clerk-key-0000001', cashier=true},
+{token='cashier-key-00001', cashier=true}, {token='guest-key-0000001', account='al'}]
+plan = [{class='default', block=1, unit=0}]";
+
+fn are_roles(config: &Config) -> bool {
+    match config.keys.list() {
+        [logins, clerk, cashier, guest] => {
+            matches!((&logins.role, &clerk.role), (Role::Logins, Role::Clerk))
+                && is_key(cashier, "cashier-key-00001", None)
+                && is_key(guest, "guest-key-0000001", Some(b"al"))
+        }
+        _ => false,
+    }
+}
+
+#[test]
+fn keys_have_the_roles_of_their_tables(rt: HostRuntime) -> Result<(), Fail> {
+    assert!(rt; are_roles(&config_of(rt.alloc(), ROLES)?));
     Ok(())
 }

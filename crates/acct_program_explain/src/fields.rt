@@ -46,7 +46,7 @@ static PLAN: Kind = Kind {
 
 static KEY: Kind = Kind {
     table: "key",
-    known: "token, and account, cashier or logins",
+    known: "token, and account, cashier, perhaps with accounts, or logins",
     before: "[[plan]]\nclass = 'default'\nblock = 1\nunit = 0\n[[key]]\n",
 };
 
@@ -126,7 +126,7 @@ static PLAN_FIELDS: [Field; 4] = [
     },
 ];
 
-static KEY_FIELDS: [Field; 4] = [
+static KEY_FIELDS: [Field; 5] = [
     Field {
         name: "token",
         rule: "16 to 64 of A-Z a-z 0-9 - in quotes",
@@ -147,6 +147,13 @@ static KEY_FIELDS: [Field; 4] = [
         is_required: false,
         is_unique: false,
         others: "token = 'abcdefghijklmnop'\n",
+    },
+    Field {
+        name: "accounts",
+        rule: "true, without quotes, where the cashier sees accounts",
+        is_required: false,
+        is_unique: false,
+        others: "token = 'abcdefghijklmnop'\ncashier = true\n",
     },
     Field {
         name: "logins",

@@ -113,6 +113,9 @@ fn wrong_bearer<'d>(kind: Kind, table: &'d Table) -> Option<What<'d>> {
     let named = BEARERS.iter().filter(|name| table.contains_key(**name));
     match named.count() {
         0 => Some(What::Said("this [[key]] has none of account, cashier and logins")),
+        1 if table.contains_key("accounts") && !table.contains_key("cashier") => {
+            Some(What::Said("this [[key]] has accounts without cashier"))
+        }
         1 => None,
         _ => Some(What::Said("this [[key]] has more than one of account, cashier and logins")),
     }

@@ -7,7 +7,7 @@ use std::test::Fail;
 // A text, and what is printed for its first fault.
 type Wrong = (&'static str, &'static str);
 
-static WRONG: [Wrong; 30] = [
+static WRONG: [Wrong; 32] = [
     (
         "[[client]]\nname = 'a\n",
         "explained: f line 2: this is not TOML: invalid string\n",
@@ -133,6 +133,17 @@ static WRONG: [Wrong; 30] = [
          logins = false\n",
         "explained: f line 5: logins of this [[key]] is true, without quotes, where the key asks \
          what a login may use\n",
+    ),
+    (
+        "[[plan]]\nclass = 'default'\nblock = 1\nunit = 0\n[[key]]\ntoken = 'abcdefghijklmnop'\n\
+         cashier = true\naccounts = false\n",
+        "explained: f line 5: accounts of this [[key]] is true, without quotes, where the cashier \
+         sees accounts\n",
+    ),
+    (
+        "[[plan]]\nclass = 'default'\nblock = 1\nunit = 0\n[[key]]\ntoken = 'abcdefghijklmnop'\n\
+         account = 'al'\naccounts = true\n",
+        "explained: f line 5: this [[key]] has accounts without cashier\n",
     ),
     (
         "[stamp]\nsecret = '0123456789abcde'\n[[plan]]\nclass = 'default'\nblock = 1\nunit = 0\n",

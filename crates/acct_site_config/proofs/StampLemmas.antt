@@ -1,6 +1,6 @@
 -- The clients whose logins are stamped, one table more at a time.
 use Rattle.std.proofs.Common.{◌≡◌, ℕ, ◌+◌, ◌<◌, List, [], ◌∷◌, ◌++◌, length, map, take, drop, get_or}
-use Rattle.std.proofs.Common.{Option, Some, None, refl, sym, ◌∙◌, ap, cond, true, false}
+use Rattle.std.proofs.Common.{Option, Some, None, sym, ◌∙◌, ap, cond, true, false}
 use Rattle.std.proofs.lemmas.List.{drop_more, length-map, append-nil}
 use Rattle.std.proofs.lemmas.List.Elements.{filter_map-append}
 use Rattle.std.proofs.lemmas.Option.{get_or_from_slice_get}

@@ -21,6 +21,8 @@ pub(crate) enum Bearer<'t> {
     Account(&'t str),
     // The cashier, if it is true.
     Cashier(bool),
+    // A cashier who sees accounts, if both are true.
+    Clerk(bool, bool),
     // The site's front, if it is true.
     Logins(bool),
 }
@@ -88,8 +90,9 @@ fn role_of(alloc: Global, bearer: Bearer<'_>) -> Result<Role, ConfigKind>
             Ok(Role::Account(Octets { octets }))
         }
         Bearer::Cashier(true) => Ok(Role::Cashier),
+        Bearer::Clerk(true, true) => Ok(Role::Clerk),
         Bearer::Logins(true) => Ok(Role::Logins),
-        Bearer::Cashier(false) | Bearer::Logins(false) => Err(ConfigKind::BadKey),
+        _ => Err(ConfigKind::BadKey),
     }
 }
 
@@ -98,36 +101,43 @@ fn values_of(value: &Value) -> Option<(&str, Bearer<'_>)>
     ensures { option_map (λ t. (t.0.now, inner.bearer_view t.1)) result
         ≡ spec.key_values (view value.now) }
 {
-    let table = table_of(value, &["token", "account", "cashier", "logins"])?;
+    let table = table_of(
+        value,
+        &["token", "account", "cashier", "accounts", "logins"],
+    )?;
     let token = text_at(table, "token")?;
     let bearer = bearer_in(table)?;
     Some((token, bearer))
 }
 
-// The bearer that a key's table names by one of three names.
+// The bearer that a key's table names.
 fn bearer_in(table: &Table) -> Option<Bearer<'_>>
     ensures { option_map inner.bearer_view result ≡ spec.bearer_in (table_view table.now) }
 {
     bearer_of(
         table.get("account"),
         table.get("cashier"),
+        table.get("accounts"),
         table.get("logins"),
     )
 }
 
-// The bearer of the values at these names: exactly one of them.
+// The bearer of the values at these names: exactly one of them, or `accounts` beside `cashier`.
 fn bearer_of<'t>(
     account: Option<&'t Value>,
     cashier: Option<&'t Value>,
+    accounts: Option<&'t Value>,
     logins: Option<&'t Value>,
 ) -> Option<Bearer<'t>>
     ensures { option_map inner.bearer_view result ≡ spec.bearer_of (inner.data_view account.entry)
-        (inner.data_view cashier.entry) (inner.data_view logins.entry) }
+        (inner.data_view cashier.entry) (inner.data_view accounts.entry)
+        (inner.data_view logins.entry) }
 {
-    match (account, cashier, logins) {
-        (Some(account), None, None) => account_bearer(account),
-        (None, Some(cashier), None) => cashier_bearer(cashier),
-        (None, None, Some(logins)) => logins_bearer(logins),
+    match (account, cashier, accounts, logins) {
+        (Some(account), None, None, None) => account_bearer(account),
+        (None, Some(cashier), None, None) => cashier_bearer(cashier),
+        (None, Some(cashier), Some(accounts), None) => clerk_bearer(cashier, accounts),
+        (None, None, None, Some(logins)) => logins_bearer(logins),
         _ => None,
     }
 }
@@ -147,6 +157,16 @@ fn cashier_bearer(value: &Value) -> Option<Bearer<'_>>
     match value.as_bool() {
         Some(is) => Some(Bearer::Cashier(is)),
         None => None,
+    }
+}
+
+fn clerk_bearer<'t>(cashier: &'t Value, accounts: &'t Value) -> Option<Bearer<'t>>
+    ensures { option_map inner.bearer_view result
+        ≡ spec.clerk_bearer (view cashier.now) (view accounts.now) }
+{
+    match (cashier.as_bool(), accounts.as_bool()) {
+        (Some(is), Some(sees)) => Some(Bearer::Clerk(is, sees)),
+        _ => None,
     }
 }
 

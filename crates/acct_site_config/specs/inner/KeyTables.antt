@@ -11,11 +11,12 @@ use Rattle.acct_site_config.specs.declared.key_tables.Bearer.TheVariants as code
 use Rattle.acct_site_config.specs.declared.config_error.ConfigKind.{ConfigKind}
 use Rattle.acct_site_config.specs.declared.config_error.ConfigKind.TheVariants.{BadKey}
 use Rattle.acct_site_config.specs.Entries as entries
-use Rattle.acct_site_config.specs.KeyTables.{Bearer, account, cashier, logins, key_values, SaysKey}
+use Rattle.acct_site_config.specs.KeyTables.{Bearer, account, cashier, clerk, logins, key_values, SaysKey}
 
 abbrev pub bearer_view : code.Bearer → Bearer
 bearer_view (codes_of.Account text) = account text.now
 bearer_view (codes_of.Cashier is) = cashier is
+bearer_view (codes_of.Clerk is sees) = clerk is sees
 bearer_view (codes_of.Logins is) = logins is
 
 abbrev pub SpellsKey : Data → DeskKey → Type 0

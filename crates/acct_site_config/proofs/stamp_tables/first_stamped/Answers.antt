@@ -1,4 +1,4 @@
-use Rattle.std.proofs.Common.{sym, ◌∙◌, ap}
+use Rattle.std.proofs.Common.{sym, ◌∙◌}
 use Rattle.acct_site_config.proofs.StampLemmas.{first_here, first_later}
 use Rattle.acct_site_config.proofs.stamp_tables.first_stamped.Goals as goal
 

@@ -1,4 +1,4 @@
-use Rattle.std.proofs.Common.{sym, ◌∙◌, ap, ◌++◌, ◌∷◌, [], Some, None}
+use Rattle.std.proofs.Common.{sym, ◌∙◌, ap, ◌++◌, ◌∷◌, [], Some}
 use Rattle.acct_site_config.proofs.StampLemmas.{stamped_more, stamped_none}
 use Rattle.acct_site_config.proofs.stamp_tables.stamped_in.Goals as goal
 use Rattle.acct_site_config.proofs.stamp_tables.stamped_in.Goals.{in-Some+in_ok-push-in-Some, in-None}
