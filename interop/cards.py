@@ -46,8 +46,7 @@ def text_of(path):
 def keys(browser, proxy, server, folder):
     """A key for a stay: made, on a card, shown, ended at check-out or on time."""
     card, before = os.path.join(folder, "card.html"), text_of(server.config)
-    words = ["--config", server.config, "--db", server.book, "--log", server.errors]
-    words += ["--url", proxy.url()]
+    words = ["--config", server.config, "--url", proxy.url()]
     account = "Zoë 1126"
     done = tool("key", *words, "new", account, "--days", "3", "--card", card)
     check("radacctl key makes a key", done, (0, f"{account}: the card is {card}\n", ""))
@@ -123,12 +122,10 @@ def has_check_letter(code):
     return LETTERS[weighed % len(LETTERS)] == plain[-1]
 
 
-def begin_service(proxy, server, folder):
-    """The pages' service at the socket that nginx asks."""
+def begin_service(server, folder):
+    """The pages' service, which finds what the program writes in a folder."""
     service = live.Service(f"{folder}/service", server.desk, SITE_KEY, name="Hotel Example")
-    service.socket = proxy.socket
-    # As the program writes them there.
-    service.env["RADACCTD_PLANS"] = f"{folder}/plans.json"
+    service.of_book(folder, server.radius)
     return service.start()
 
 

@@ -1,4 +1,4 @@
-"""Follows docs/DESK.md on a Debian machine with systemd: nginx in front of the desk."""
+"""Follows docs/DESK.md on a Debian machine with systemd: what sells, and nginx before the pages."""
 
 import os
 import re
@@ -7,16 +7,16 @@ import tempfile
 
 from served import ROOT
 
-CASHIER_FILE = "/etc/nginx/radacctd/cashier.conf"
+KEY_FILE, SECRET_FILE = "/etc/radacctd-site.key", "/etc/radacctd-books.secret"
 CERTIFICATE, PRIVATE_KEY = "/etc/ssl/radacctd.pem", "/etc/ssl/private/radacctd.key"
-LOGIN = "anna:anna-has-a-pass"
+NAME, PASSWORD = "anna", "anna-has-a-pass"
 # What this follower does in another way: Debian's packages are there, and nobody types.
 LEFT_OUT = ("apt ", "editor ", "nginx -t", "systemctl restart nginx")
 
 
-def steps_of(page, heading, end):
-    """The commands of a part of a page."""
-    with open(os.path.join(ROOT, "docs", page), encoding="utf-8") as file:
+def steps_of(heading, end):
+    """The commands of a part of the page."""
+    with open(os.path.join(ROOT, "docs", "DESK.md"), encoding="utf-8") as file:
         text = file.read()
     text = text[text.index(heading) + len(heading) :]
     text = text[: text.index(end)].replace("\\\n", " ")
@@ -40,21 +40,18 @@ def certificate(box):
                 box.write(path, file.read(), 0o600)
 
 
-def put_proxy(box, key):
-    """The steps of "Put a proxy in front" but the last one, and the cashier's key."""
+def put_store(box, key):
+    """The steps of "What sells", with a cashier's key; the secret of debits may be there already."""
+    lines = steps_of("## What sells", "## Put a proxy in front")
+    start = next(at for at, it in enumerate(lines) if it.startswith("systemctl enable"))
+    more = [f"echo {key} > {KEY_FILE}",
+            f"test -e {SECRET_FILE} || install -m 600 /dev/null {SECRET_FILE}"]
+    box.must(script_of([*lines[:start], *more, *lines[start:]]))
+
+
+def put_proxy(box):
+    """The steps of "Put a proxy in front" but the last one, and a cashier's password."""
     certificate(box)
-    lines = steps_of("DESK.md", "## Put a proxy in front", "| Page | For |")
-    # The login's password comes from standard input.
-    login = ("htpasswd -cB", f"echo {LOGIN.partition(':')[2]} | htpasswd -icB")
-    box.must(script_of([it.replace(*login) for it in lines]))
-    text = box.must(f"cat {CASHIER_FILE}").replace('""', f'"{key}"')
-    box.write(CASHIER_FILE, text, 0o600)
-
-
-def put_service(box, key):
-    """The steps of the pages' service, with a cashier's key of its own, and a person's password."""
-    lines = steps_of("DESK.md", "### The pages' service", "If a page says that it does not work")
-    person = ("radacctl person put", f"echo {LOGIN.partition(':')[2]} | radacctl person put")
-    lines.insert(lines.index("systemctl enable --now radacctd-site.socket radacctd-minute.timer"),
-                 f"echo {key} > /etc/radacctd-site.key")
+    person = ("radacctl person put", f"echo {PASSWORD} | radacctl person put")
+    lines = steps_of("## Put a proxy in front", "| Page | For |")
     box.must(script_of([it.replace(*person) for it in lines]))

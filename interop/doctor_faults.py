@@ -116,7 +116,6 @@ BREAKS = {
     "packages-shut": (f"chmod 0 {LOGINS}", f"chmod 600 {LOGINS}"),
     "packages-key": edited("s/^\\tkey = ./\\tkey = x/", f"{RADDB}/radacctd/packages.conf"),
     "packages-file": appended("\\n[[package]]\\n", "/etc/radacctd-packages/packages.toml"),
-    "clerk-file": appended("\\nx = 1\\n", "/etc/radacctd-clerk/rights.toml"),
     "packages-wait": (f"systemctl stop radacctd-packages.timer; {AS_FREERAD} sqlite3 {LOGINS} "
                       "\"INSERT INTO lapse VALUES (x'61', 'LAPSE-X', 1, 1, 0)\"",
                       f"{AS_FREERAD} sqlite3 {LOGINS} 'DELETE FROM lapse'; "
@@ -147,8 +146,8 @@ BREAKS = {
                           f"cat /root/new) >> {CONFIG}"),
     "mode-open": ("chmod 644 /etc/radacctd-cashier.key", "chmod 600 /etc/radacctd-cashier.key"),
     "mode-wrong": (f"chmod 600 {CONFIG}", f"chmod 640 {CONFIG}"),
-    "group-wrong": ("gpasswd -d www-data radacctd-balances",
-                    "gpasswd -a www-data radacctd-balances"),
+    "group-wrong": ("gpasswd -d radacctd-site radacctd-balances",
+                    "gpasswd -a radacctd-site radacctd-balances"),
     "keys-full": kept(CONFIG, KEYS),
     "log-odd": (f"{WRONG},Packet-Src-IP-Address=127.0.0.77' | {SENT}", FORGET),
     "clock-unset": ("printf '#!/bin/sh\\necho NTP=no\\necho NTPSynchronized=no\\n' > /root/clock; "
@@ -172,9 +171,6 @@ BREAKS = {
                f"rm {UNSENT}/detail-1"),
     "pages-settings": kept("/etc/radacctd-web/settings.json",
                            "echo '{}' > /etc/radacctd-web/settings.json"),
-    "fcgiwrap-open": ("systemctl start fcgiwrap.socket", "systemctl stop fcgiwrap.socket"),
-    "log-open": ("chmod 644 /var/log/nginx/radacctd-sales.log",
-                 "chmod 640 /var/log/nginx/radacctd-sales.log"),
     "copy-old": (f"touch -d '2 days ago' {COPIES}/20*", f"touch {COPIES}/20*"),
     "copy-bad": (f"cp -a {LAST}/site.tar.gz /root/kept; truncate -s 1000 {LAST}/site.tar.gz",
                  f"cp -a /root/kept {LAST}/site.tar.gz"),

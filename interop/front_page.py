@@ -48,7 +48,6 @@ def set_up(box, staged):
     modes = box.must(f"stat -c '%A %U %G' {FOLDER}/plans.csv {FOLDER}/plans.json").splitlines()
     check("the service writes the plans, for their group", modes,
           2 * ["-rw-r----- radacctd radacctd-balances"])
-    box.must("radacctl pages")
     pair_page.install_freeradius(box)
     lines = '\n\tupdate reply {\n\t\t&Class = "silver"\n\t}\n\tradacctd_login\n'
     default = f"{RADDB}/sites-available/default"
@@ -69,7 +68,7 @@ def plans(box):
     journal = "journalctl -o cat -u radacctd -n 20"
     waits_for("its plan waits", lambda: "silver is new" in box.run(journal)[1], True, 60)
     check("while it waits, too", login(box, "al"), at_default)
-    files = f"{FOLDER}/plans.csv {FOLDER}/plans.json /etc/radacctd-web/plans.json"
+    files = f"{FOLDER}/plans.csv {FOLDER}/plans.json"
     in_force = lambda: box.run(f"grep -l silver {files}")[1].split()
     check("no file has it", in_force(), [])
     commands = steps(section(CONFIG_PAGE, "Add a plan"))

@@ -22,7 +22,7 @@ PAIR = "RADACCTD_OWN=127.0.0.1\nRADACCTD_OTHER=127.0.0.1\n"
 # What a site has in files of its own, which must be as it was, with owner and rights.
 FILES = [CONFIG, "/etc/default/radacctd", "/etc/default/radacctd-pair", "/etc/radacctd-site.key"]
 FILES += ["/etc/radacctd-cashier.key", "/etc/radacctd-books.secret", "/etc/radacctd-web/*.json"]
-FILES += ["/etc/nginx/radacctd/*", "/etc/nginx/conf.d/*", "/var/lib/radacctd-withdrawn/*"]
+FILES += ["/etc/nginx/conf.d/*", "/var/lib/radacctd-withdrawn/*"]
 FILES += [f"{RADDB}/radacctd/*", f"{RADDB}/radiusd.conf", f"{RADDB}/sites-enabled/*"]
 FILES += [f"{RADDB}/mods-enabled/radacctd", desk_page.CERTIFICATE, desk_page.PRIVATE_KEY]
 FILES += ["/etc/systemd/system/radacctd*.service", "/var/lib/radacctd-books/*"]
@@ -83,9 +83,8 @@ class Asking:
                                  .rsplit(":", 1)[1].split(","))
         found["units"] = [box.run(f"systemctl is-active {it}")[1].strip() for it in UNITS]
         found["enabled"] = [box.run(f"systemctl is-enabled {it}")[1].strip() for it in UNITS]
-        found["others"] = box.run("systemctl is-enabled fcgiwrap.socket")[1].strip()
         found["pages"] = [self.web(it)[0] for it in ("/", "/desk/", "/redeem/")]
-        found["desk"] = self.web("/desk/", "-u", desk_page.LOGIN)[0]
+        found["sales"] = box.must("radacctl sales --first 2020-01-01 --csv")
         found["guest"] = " left" in self.web("/", "-H", f"Cookie: __Host-guest={self.key}")[1]
         found["login"] = self.may_log_in()
         return found
@@ -121,10 +120,10 @@ class Lost(Asking):
         if status:
             print(box.run("runuser -P -u freerad -- freeradius -CX | tail -5; "
                           "journalctl -u freeradius -n 9 -o cat")[1])
-        desk_page.put_proxy(box, CASHIER)
+        desk_page.put_store(box, SITE_KEY)
+        desk_page.put_proxy(box)
         box.must(f"sed -i 's|\"url\": \"\"|\"url\": \"{URL}\"|' /etc/radacctd-web/settings.json")
         box.must("systemctl restart nginx; systemctl enable nginx 2>&1")
-        desk_page.put_service(box, SITE_KEY)
         self.set_up_pair()
         keys = f"{CASHIER}\n{SITE_KEY}"
         for name, text in (("books.secret", "books-secret"), ("cashier.key", keys)):
@@ -146,9 +145,8 @@ class Lost(Asking):
         """Sales, reports, codes, keys and debits."""
         box = self.box
         text = "voucher,account,sum\\nA-1,al,500\\nA-2,bo,70\\n"
-        box.must(f"printf '{text}' | radacctl sell --key-file /etc/radacctd-cashier.key")
-        told = box.must(f"printf 'voucher,account,sum\\nB-1,cy,60\\n' | radacctl sell"
-                        " --key-file /etc/radacctd-cashier.key")
+        box.must(f"printf '{text}' | radacctl sell")
+        told = box.must("printf 'voucher,account,sum\\nB-1,cy,60\\n' | radacctl sell")
         check("a sale by the outbox", "added 1" in told, True)
         check("a report", pair_page.report(box, "S-1", "al", 3 << 20), True)
         waits_for("is charged", lambda: "al,470,0" in box.must(f"cat {BALANCES}"), True, 60)
@@ -195,7 +193,7 @@ class Again(Asking):
     def follow(self, staged):
         """Each step of the page. The copy comes without a network, and radacctd without apt."""
         box = self.box
-        box.must("systemctl disable --now freeradius nginx fcgiwrap.socket 2>&1")
+        box.must("systemctl disable --now freeradius nginx 2>&1")
         box.must("rm -rf /etc/radacctd* /var/lib/radacctd*")
         found = commands("Restore the site")
         check("the page has nine steps", sorted(found), list(range(1, 10)))
@@ -236,7 +234,7 @@ class Again(Asking):
         check("a redeemed code is not another guest's", self.redeem("eve", self.codes[0][0]), 409)
         check("a live code is redeemed", self.redeem("eve", self.codes[0][1]), 200)
         text = "voucher,account,sum\\nA-1,al,500\\nA-3,al,30\\n"
-        told = box.must(f"printf '{text}' | radacctl sell --key-file /etc/radacctd-cashier.key")
+        told = box.must(f"printf '{text}' | radacctl sell")
         check("a file is given again", "added 1, repeated 1, refused 0\n" in told, True)
         check("a report", pair_page.report(box, "S-1", "al", 4 << 20), True)
         waits_for("is charged", lambda: "al,490,0" in box.must(f"cat {BALANCES}"), True, 60)
@@ -245,6 +243,5 @@ class Again(Asking):
         check("a debit's number is known", (told[0], "was given before" in told[1]), (1, True))
         box.must("systemctl start radacctd-nightly")
         box.must("systemctl restart radacctd-outbox")
-        told = box.must(f"printf 'voucher,account,sum\\nB-1,cy,60\\nB-2,cy,1\\n' | radacctl sell"
-                        " --key-file /etc/radacctd-cashier.key")
+        told = box.must("printf 'voucher,account,sum\\nB-1,cy,60\\nB-2,cy,1\\n' | radacctl sell")
         check("the outbox knows its sale", "added 1, repeated 1, refused 0\n" in told, True)

@@ -3,13 +3,13 @@
 import os
 import subprocess
 import sys
+import tempfile
 
 from served import PROGRAM, ROOT, check
 
 sys.path.append(os.path.join(ROOT, "etc"))
 
 from radacctl import names
-from radacctl.commands import sell
 
 # As a file of vouchers spells them: % and two digits are one octet.
 MAY = ["al", "Al", "Mueller-1127", "anna maria", "-x", "=x", "+49 170 1", "@home", "a'b", "a,b"]
@@ -82,22 +82,17 @@ def test_rule():
         check(f"{spelled} comes back as exports spell it", found, octets)
 
 
-def test_apostrophes():
-    """A field with a formula's apostrophe is of the name without it."""
-    rows = "".join(f"V-{at},'={at},5\n" for at in range(40))
-    vouchers, *_ = sell.read(f"voucher,account,sum\n{rows}".encode(), frozenset())
-    found = [it.account for it in vouchers]
-    check("a formula's apostrophe is none of the name's", found, [b"=%d" % at for at in range(40)])
-
-
 def test_found(prefix):
     """The tools find the module where bin/install puts it, and leave nothing next to it."""
     folder = os.path.join(prefix, "libexec", "radacctd")
     tool = os.path.join(prefix, "sbin", "radacctl")
-    text = b"voucher,account,sum\nV-1,'anton,5\n"
-    done = subprocess.run([tool, "sell", "--dry-run"], input=text, capture_output=True, cwd="/")
-    said = "record 2: the account `'anton` may not enter: it begins with an apostrophe"
-    found = done.returncode, said in done.stderr.decode(), "__pycache__" in os.listdir(folder)
+    with tempfile.NamedTemporaryFile("w", suffix=".csv") as file:
+        file.write("account,sum,number\n'anton,5,FEE-1\n")
+        file.flush()
+        words = [tool, "debit", "--file", file.name]
+        done = subprocess.run(words, capture_output=True, text=True, cwd="/")
+    said = "record 2: the account `'anton` is not taken from a file: it begins with an apostrophe"
+    found = done.returncode, said in done.stderr, "__pycache__" in os.listdir(folder)
     check("an installed tool has the rule of names", found, (1, True, False))
 
 

@@ -87,14 +87,13 @@ def upgraded(box):
 def removed(box):
     """apt removes nothing that others read, until one has done what it says."""
     others = ("freeradius", "nginx")
-    for who in ("FreeRADIUS has", "nginx has"):
-        status, said = box.run("apt-get remove -y radacctd")
-        check(f"while {who} its files, apt removes nothing",
-              (status != 0, f"{who} files of this package" in said), (True, True))
-        check("and all go on", box.run(f"systemctl is-active {' '.join(others)}")[1],
-              "active\n" * len(others))
-        for command in re.findall(r"(?m)^ {4}(\S.*)$", said):
-            box.must(command.replace("setup --remove", "setup --remove --yes"))
+    status, said = box.run("apt-get remove -y radacctd")
+    check("while FreeRADIUS has its files, apt removes nothing",
+          (status != 0, "FreeRADIUS has files of this package" in said), (True, True))
+    check("and all go on", box.run(f"systemctl is-active {' '.join(others)}")[1],
+          "active\n" * len(others))
+    for command in re.findall(r"(?m)^ {4}(\S.*)$", said):
+        box.must(command.replace("setup --remove", "setup --remove --yes"))
     check("then apt removes it", box.run("apt-get remove -y radacctd")[0], 0)
     for it in others:
         check(f"{it} starts without it", box.run(f"systemctl restart {it}")[0], 0)

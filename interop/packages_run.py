@@ -11,7 +11,6 @@ HERE = os.path.dirname(os.path.abspath(__file__))
 sys.path.insert(0, os.path.join(os.path.dirname(HERE), "etc"))
 
 from radacctl import lapses, logins, main, money, packages, site
-from radacctl.clerk import journal, rights
 from radacctl.commands import guest
 from radacctl.commands import packages as command
 
@@ -26,7 +25,6 @@ def moved(folder):
     logins.LOG, command.LOCK = path("withdrawn/logins.csv"), path("tick.lock")
     logins.FOLDER, logins.USES_FOLDER = path("logins"), path("uses")
     guest.LOCK, guest.DRAFTS = path("guest.lock"), path("guests")
-    journal.FILE, rights.FILE = path("books/clerk.csv"), path("clerk.toml")
     lapses.MIRROR, command.SHEETS = path("run/balances.db"), path("sheets.csv")
     log = (logins.LOG,)
     changed = {

@@ -1,15 +1,13 @@
 """What interop/pair tests once both books are equal: the alarms of docs/PAIR.md and their cures, a
-login while one radacctd is down, a file of vouchers, and nginx before the outbox.
+login while one radacctd is down, and a file of vouchers.
 """
 
 import os
-import shutil
 import subprocess
 import time
 
 import pair_machines
-from front import KILL, MEBIBYTE, check, report, waits_for
-from pair_machines import PAIR, TOOLS
+from front import MEBIBYTE, check, report, waits_for
 from redeeming import live
 
 # How long a comparison may take until it reports, in seconds.
@@ -26,10 +24,6 @@ def run(test):
     by_a_code(test, first)
     limit_at_one(test, first, second)
     while_one_is_down(test, first, second)
-    if shutil.which("nginx") and shutil.which("htpasswd"):
-        through_nginx(test, first, second)
-    else:
-        print("left out: nginx, for which nginx or apache2-utils is missing")
 
 
 def statuses(test):
@@ -79,12 +73,11 @@ def by_a_file(test, first, second):
     """radacctl sell by the outbox while the other desk is down."""
     second.book.kill()
     lines = [f"F-{number},user{number % 5},10" for number in range(40)]
-    words = [os.path.join(TOOLS, "radacctl"), "sell", "--port", str(first.outbox_port)]
-    words += ["--key-file", first.key]
     text = "\n".join(["voucher,account,sum", *lines]) + "\n"
-    done = subprocess.run(words, input=text, capture_output=True, text=True)
-    wanted = (0, "added 40, repeated 0, refused 0\n")
-    check("radacctl sell sells while one desk is down", (done.returncode, done.stdout), wanted)
+    service = service_of(test, first)
+    sell = lambda: service.run("sell", stdin=None, input=text)
+    check("radacctl sell sells while one desk is down", sell(),
+          (0, "added 40, repeated 0, refused 0\n"))
     listed = first.outbox_command("--list").stdout
     check("the vouchers wait", listed.count("own taken, other new"), 40)
     first.outbox.kill()
@@ -92,16 +85,19 @@ def by_a_file(test, first, second):
     first.begin_outbox()
     second.book.begin()
     all_well(test, "the outbox was killed; the other book gets them")
-    done = subprocess.run(words, input=text, capture_output=True, text=True)
-    check("the file again: repeats", done.stdout, "added 0, repeated 40, refused 0\n")
+    check("the file again: repeats", sell()[1], "added 0, repeated 40, refused 0\n")
+
+
+def service_of(test, machine):
+    """What sells, by the outbox of a machine."""
+    with open(machine.key, encoding="ascii") as file:
+        key = file.readline().strip()
+    return live.Service(os.path.join(test.folder, "site"), machine.outbox_port, key, decimals=0)
 
 
 def by_a_code(test, first):
     """A printed voucher, redeemed by the outbox."""
-    with open(first.key, encoding="ascii") as file:
-        service = live.Service(os.path.join(test.folder, "site"), first.outbox_port,
-                               file.readline().strip(), decimals=0)
-    service.start()
+    service = service_of(test, first).start()
     try:
         service.run("voucher", "make", "1", "30")
         name = service.run("voucher", "list")[1].partition(":")[0]
@@ -167,54 +163,3 @@ def while_one_is_down(test, first, second):
 
 def used(session, account, mebibytes):
     return report("Interim-Update", session, account, mebibytes * MEBIBYTE)
-
-
-def front_desk_sells(site, first, second):
-    """Sales while both desks, one and none of them are up."""
-    check("nginx: a sale", site.sell("user4", 30, "N-1"), 201)
-    check("again", site.sell("user4", 30, "N-1"), 200)
-    check("for another account", site.sell("user5", 30, "N-1"), 409)
-    login = ("-u", "anna:anna-has-a-pass")
-    check("overruns", site.status("/desk/overruns", *login), 200)
-    status, _, body = site.curl("/desk/balances.csv", *login)
-    check("balances", (status, body.split("\n")[0]), (200, "account,balance,overrun"))
-    second.book.kill()
-    check("a sale while one desk is down", site.sell("user4", 5, "N-2"), 201)
-    first.book.kill()
-    check("while both are: kept", site.sell("user4", 5, "N-3"), 503)
-
-
-def through_nginx(test, first, second):
-    """The front desk's requests, through nginx to the outbox."""
-    from proxy import Proxy
-
-    kept = os.path.join(first.state, "balances.csv")
-
-    class Site(Proxy):
-        def write(self):
-            shutil.copy(os.path.join(PAIR, "desks-outbox.conf"), f"{self.folder}/radacctd")
-            super().write()
-
-    changes = [
-        ("include radacctd/desks-one.conf;", "include radacctd/desks-outbox.conf;"),
-        ("server 127.0.0.1:8067;", f"server 127.0.0.1:{first.outbox_port};"),
-        ("10.0.0.5:8066", f"127.0.0.1:{first.book.desk}"),
-        ("10.0.0.6:8066", f"127.0.0.1:{second.book.desk}"),
-        ("/var/lib/radacctd-pair/balances.csv", kept),
-    ]
-    site = Site(os.path.join(test.folder, "nginx"), KILL.CASHIER, changes)
-    site.settings()
-    try:
-        site.start()
-        front_desk_sells(site, first, second)
-        for machine in test.machines:
-            machine.book.begin()
-    finally:
-        site.end()
-    waiting = lambda: first.outbox_command("--list").stdout
-    waits_for("both books get it", waiting, "", PATIENCE)
-    rows = [machine.book.ask("POST", "/topups", KILL.CASHIER, SOLD)[0] for machine in test.machines]
-    check("N-3 is in both", rows, [200, 200])
-
-
-SOLD = '{"account":"user4","sum":5,"voucher":"N-3"}'

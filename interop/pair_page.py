@@ -7,7 +7,6 @@ util-linux. It makes a root of Debian with FreeRADIUS and nginx once, which take
 """
 
 import contextlib
-import json
 import os
 import re
 import subprocess
@@ -142,6 +141,7 @@ def set_up(it, own, other):
     replaced(it, f"{RADDB}/radiusd.conf", (line, line + commands[6].strip() + "\n"))
     run(it, "step 7", commands[7])
     it.must(f"echo {CASHIER} > /etc/radacctd-cashier.key")
+    desk_page.put_store(it, CASHIER)
     said = run(it, "step 8", f"cd {RADDB}\n" + commands[8])
     check(f"{it.title}: FreeRADIUS takes it", "appears to be OK" in said, True)
     run(it, "step 9", commands[9])
@@ -411,8 +411,8 @@ def differ(first, second):
     text = section(PAGE, "Alarms")
     commands = steps(text[text.index("### If balances differ") : text.index("### If one book")])
     lacks = "printf 'voucher,account,sum\\nONE-1,eve,50\\n'"
-    straight = "radacctl sell --port 8066 --host"
-    said = first.run(f"{lacks} | {straight} {ADDRESSES[0]} 2>/dev/null")[1].strip()
+    straight = f"RADACCTD_DESK={ADDRESSES[0]}:8066 radacctl sell --unpaid"
+    said = first.run(f"{lacks} | {straight} 2>/dev/null")[1].strip()
     check("a voucher is sold straight at one desk", said, ADDED)
     for it, line in ((first, "account eve: 50 here, 0 there"), (second, "account eve: 0 here, 50")):
         journal_has(it, line)
@@ -438,10 +438,10 @@ def refused(first, second):
     commands = steps(text[text.index("### If one book refuses") :])
     at = lambda address, line: first.run(
         f"printf 'voucher,account,sum\\n{line}\\n' | "
-        f"radacctl sell --port 8066 --host {address} 2>/dev/null"
+        f"RADACCTD_DESK={address}:8066 radacctl sell --unpaid 2>/dev/null"
     )[1].strip()
     check("X-1 is sold to gus straight at one desk", at(ADDRESSES[0], "X-1,gus,5"), ADDED)
-    second.run("printf 'voucher,account,sum\\nX-1,hal,7\\n' | radacctl sell --give-up 1")
+    second.run("printf 'voucher,account,sum\\nX-1,hal,7\\n' | radacctl sell")
     for it in (first, second):
         journal_has(it, "voucher X-1: one book took it and one refuses it")
     listed = second.run(commands[1])[1]
@@ -454,23 +454,6 @@ def refused(first, second):
         waits_for(f"{it.title}: the alarm ends", lambda it=it: is_well(it), True, 300)
         rm = re.search(r"\n    (rm .*seen.json)\n", section(PAGE, "Alarms"))[1]
         run(it, "what was seen is removed", rm)
-
-
-def through_nginx(it):
-    """nginx before the outbox: the steps of DESK, and the page's command."""
-    desk_page.put_proxy(it, CASHIER)
-    text = section(PAGE, "Sell and debit")
-    run(it, "desks-outbox.conf", re.search(r"\n    (install .*outbox.conf .*)\n", text)[1])
-    include = "include radacctd/desks-{}.conf;"
-    file = "/etc/nginx/conf.d/radacctd.conf"
-    replaced(it, file, (f"\n{include.format('one')}", f"\n{include.format('outbox')}"))
-    run(it, "nginx", "nginx -t\nsystemctl restart nginx")
-    sale = json.dumps({"account": "ida", "sum": 9, "voucher": "D1-1"})
-    words = f"curl -sk -u {desk_page.LOGIN} -H 'Radacctd: desk' -d '{sale}'"
-    said = it.run(f"{words} https://localhost/desk/topups")[1]
-    check(f"{it.title}: a sale by the front desk's page", said, '{"result":"new"}')
-    said = it.run(f"curl -sk -u {desk_page.LOGIN} https://localhost/desk/balances.csv")[1]
-    check("and its balances", said.split("\n")[0], "account,balance,overrun")
 
 
 def hardened(it):
@@ -506,4 +489,3 @@ def follow():
             part(one, two)
         named_in_an_access_server(one, two)
         carried(one, two)
-        through_nginx(one)

@@ -1,4 +1,4 @@
-"""A guest at the page of printed vouchers, by curl: the form is loaded, and sent as one who is sure."""
+"""A guest and a cashier at the pages, by curl: a form is loaded, and sent as one who is sure."""
 
 import os
 import re
@@ -11,18 +11,44 @@ import radacctl  # it finds the kit
 from radacctd_site.core import live
 
 
-def redeem(run, url, account, code, *more):
-    """The status of the page. `run` runs a command: its status and what it printed."""
-    with tempfile.TemporaryDirectory() as folder:
-        curl = ["curl", "-sk", "-m", "30", "-b", f"{folder}/jar", "-c", f"{folder}/jar", *more]
-        text = run([*curl, f"{url}/redeem/"])[1]
-        found = re.search(r'name="token" value="(\w+)"', text)
-        fields = {"account": account, "code": code, "sure": "yes",
-                  "token": found[1] if found else ""}
+class Visitor:
+    """One browser. `run` runs a command: its status and what it printed."""
+
+    def __init__(self, run, url, *more):
+        self.run, self.url, self.folder = run, url, tempfile.TemporaryDirectory()
+        self.jar = f"{self.folder.name}/jar"
+        self.words = ["curl", "-sk", "-m", "30", "-b", self.jar, "-c", self.jar, *more]
+
+    def get(self, path):
+        return self.run([*self.words, f"{self.url}{path}"])[1]
+
+    def post(self, path, page=None, **fields):
+        """The status of a form of a page, and where it leads."""
+        found = re.search(r'name="token" value="(\w+)"', self.get(page or path))
+        fields["token"] = found[1] if found else ""
         words = [it for name, value in fields.items()
                  for it in ("--data-urlencode", f"{name}={value}")]
-        words += ["-o", os.devnull, "-w", "%{http_code}", "-H", f"Origin: {url}"]
-        return int(run([*curl, *words, f"{url}/redeem/"])[1] or 0)
+        words += ["-o", os.devnull, "-w", "%{http_code} %{redirect_url}", "-H",
+                  f"Origin: {self.url}", f"{self.url}{path}"]
+        status, _, to = self.run([*self.words, *words])[1].partition(" ")
+        return int(status or 0), to.strip().removeprefix(self.url)
+
+
+def redeem(run, url, account, code, *more):
+    """The status of the page for a guest who redeems a code."""
+    return Visitor(run, url, *more).post("/redeem/", account=account, code=code, sure="yes")[0]
+
+
+def sold(run, url, name, password, account, total, *more):
+    """The text of the receipt of a cashier who logs in, and sells."""
+    it = Visitor(run, url, *more)
+    it.post("/login/", name=name, password=password)
+    fields = {"account": account, "sum": total}
+    words = [part for key, value in fields.items() for part in ("--data-urlencode", f"{key}={value}")]
+    token = re.search(r'name="token" value="(\w+)"', it.get("/desk/"))
+    asked = run([*it.words, *words, "-d", f"token={token and token[1]}", f"{url}/desk/"])[1]
+    number = re.search(r'name="number" value="([^"]+)"', asked)
+    return it.get(it.post("/desk/", **fields, number=number and number[1], sure="yes")[1])
 
 
 def sheet(run, count, total="5.00"):

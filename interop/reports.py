@@ -44,7 +44,6 @@ class Exports:
         self.tool, self.folder, self.count = tool, folder, 0
         os.makedirs(os.path.join(folder, "exports"))
         self.settings = os.path.join(folder, "settings.json")
-        self.sales = os.path.join(folder, "radacctd-sales.log")
 
     def put(self, night, sessions, topups):
         """Writes a night whose balances are what sessions and vouchers say."""
@@ -70,7 +69,7 @@ class Exports:
         self.count += 1
         tables = os.path.join(self.folder, f"tables-{self.count}")
         command = [*self.tool, "--folder", f"{self.folder}/exports", "--csv", tables]
-        command += ["--settings", self.settings, "--sales", self.sales, *words]
+        command += ["--settings", self.settings, *words]
         done = subprocess.run(command, capture_output=True, text=True, check=False)
         found = {}
         for name in os.listdir(tables) if os.path.isdir(tables) else ():
@@ -79,26 +78,12 @@ class Exports:
         return done.returncode, done.stdout + done.stderr, found
 
 
-def sale(voucher, cashier, status=201):
-    body = json.dumps({"account": "x", "sum": 1, "voucher": voucher})
-    return json.dumps({"time": "t", "cashier": cashier, "status": status, "sale": body}) + "\n"
-
-
 def put_site(exports):
-    """A site of two nights: what was sold by whom, and accounts of all kinds of names, of which one
-    is an order for a terminal.
+    """A site of two nights, and accounts of all kinds of names, of which one is an order for a
+    terminal.
     """
     with open(exports.settings, "w", encoding="utf-8") as file:
         json.dump(SETTINGS, file)
-    with open(exports.sales, "w", encoding="utf-8") as file:
-        file.write(sale("D1-2", "bert", 200) + sale("D1-2", "jörg", 201) + "no line of a log\n")
-        file.write(sale("D1-9", "eve", 503) + sale("W-9", "eve", 503) + sale("D2-1", "bert", 200))
-        file.write(sale("D2-2", "CN=J\\C3\\B6rg") + sale("D2-3", "100%25"))
-    with open(exports.sales, "ab") as file:
-        # A login in the coding of an older machine.
-        file.write(sale("D2-4", "?").replace("?", "j\xf6rg").encode("latin-1"))
-    with gzip.open(exports.sales + ".2.gz", "wt", encoding="utf-8") as file:
-        file.write(sale("D1-1", "anna") + sale("D1-3", "anna") + sale("D1-2", "eve", 200))
     sold = [["D1-1", "M%C3%BCller 7", 1250, moment("2026-10-30 12:00")]]
     used = [session("s-1", "M%C3%BCller 7", 200, "2026-10-30 13:00", "2026-10-30 14:00")]
     exports.put("2026-11-01", used, sold)
@@ -118,16 +103,12 @@ def put_site(exports):
 
 
 def people(exports):
-    """Sums in the site's money, names as they are, and who sold."""
+    """Sums in the site's money, and names as they are."""
     status, text, tables = exports("day", "2026-11-01")
     check("a report for people", (status, text.count("UNEXPLAINED")), (0, 0))
     told = "by Class, in EUR" in text and "3,000.50" in text
     check("its sums are in the site's money", told, True)
     check("its names are as they are", "Müller 7" in text and "%C3" not in text, True)
-    # The book has W-9, so eve's sale of it was taken: only its answer was lost.
-    wanted = [["eve", "1", "0.05"], ["anna", "1", "3000.50"], ["jörg", "1", "7.00"]]
-    wanted += [[it, "1", "0.01"] for it in ("bert", "CN=Jörg", "100%25", "j%F6rg")]
-    check("it has who sold", sorted(tables["cashiers.csv"]), sorted(wanted))
     wanted = [
         ["%1B[2J", "0.00", "0.04", "0.00", "0.00", "0.00", "0.04"],
         ["%FF", "0.00", "0.05", "0.00", "0.00", "0.00", "0.05"],
@@ -168,7 +149,7 @@ def first_night(exports):
     found = status, tables["usage.csv"]
     check("there is one after a copy that was made by day, too", found, (0, []))
     status, text, tables = exports("month", "2026-11")
-    check("a month that goes on", (status, len(tables["cashiers.csv"])), (0, 7))
+    check("a month that goes on", (status, len(tables["vouchers.csv"])), (0, 3))
     status, text, _ = exports("day", "2026-11-04")
     check("after the last night there is none", (status, "no two exports" in text), (1, True))
 
@@ -234,7 +215,7 @@ def reported(nights, folder, *words):
     """The status, the text, and the tables that radacctl report wrote, as lines."""
     tool = [nights.site.tool("radacctl"), "report", "--folder", nights.exports, "--csv", folder]
     # Whatever this machine's own site is.
-    tool += ["--settings", f"{folder}.none", "--sales", f"{folder}.none"]
+    tool += ["--settings", f"{folder}.none"]
     status, output, errors = run([*tool, *words], env={"TZ": "UTC"})
     tables = {}
     if os.path.isdir(folder):

@@ -34,9 +34,9 @@ def prepare(box, folder):
 
 
 def prepare_packages(box, folder):
-    """The same for a site that sells packages at desks, and has operators."""
+    """The same for a site that sells packages, and has operators."""
     prepare(box, folder)
-    box.must("sed -i 's/^# packages = true/packages = true/; s/^# desk_/desk_/; "
+    box.must("sed -i 's/^# packages = true/packages = true/; "
              f"s/^# operators/operators/' {ANSWERS}")
 
 

@@ -33,7 +33,7 @@ class Killed:
         self.withdrawn = set()
         os.mkdir(f"{folder}/site", 0o700)
         os.mkdir(f"{folder}/backups")
-        for name in ("key", "radacctd-site.key"):
+        for name in ("key", "radacctd-site.key", "radacctd-books.secret"):
             write(f"{folder}/{name}", CASHIER + "\n")
         write(f"{folder}/settings.json", json.dumps(SETTINGS))
         # How long a whole run of each takes, once it is known.
@@ -113,10 +113,9 @@ class Killed:
         rows = {f"K-{first}-{at}": (f"st{at % 7}", 100 + at) for at in range(40)}
         text = "".join(f"{number},{account},{total}\n" for number, (account, total) in rows.items())
         text = ("voucher,account,sum\n" + text).encode()
-        words = self.tool("sell", "--key-file", f"{self.folder}/key", "--port",
-                          str(self.site.ports[1]))
-        self.kill("sell", words, text)
-        status, output, _ = self.whole("sell", words, text)
+        words = self.tool("sell")
+        self.kill("sell", words, text, self.site_env())
+        status, output, _ = self.whole("sell", words, text, self.site_env())
         found = [int(it) for it in re.findall(r"\d+", output)[:3]]
         self.need("each voucher is there", (status, sum(found[:2]), found[2]), (0, len(rows), 0))
         self.sold |= rows

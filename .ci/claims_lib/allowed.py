@@ -63,10 +63,10 @@ VENDORS = each(
 
 ALLOWED = {
     "*": {
+        "site.db": "the store of site/core",
         "site.tar.gz": "radacctl site makes it in a night's copy",
         "rattle-kit-13f logic dac8208d650f15bf": "the kit's own name of its version",
-        **each("sqlite3's own words", ".backup", ".dump"),
-        **each("sqlite3's own words", "-readonly", "PRAGMA journal_mode=DELETE"),
+        **each("sqlite3's own words", ".backup", ".dump", "-readonly", "PRAGMA journal_mode=DELETE"),
         **each("systemd's and chrony's own", "chrony-wait", "time-sync.target"),
         **each("the kit's clap prints it", "error: invalid data"),
         "book-wal": "the kit's SQLite names a log after its book",
@@ -86,7 +86,7 @@ ALLOWED = {
         "and_then(word_of)": "shows what the checker does not accept",
     },
     "docs/DAMAGE.md": each("restore makes it", ".restore.*", "book.replaced-..."),
-    "man/radacctl.8": each("a command of radacctl", "night", "guest", "allow", "person"),
+    "man/radacctl.8": each("a command of radacctl", "night", "guest", "allow", "person", "sales", "who"),
     "docs/PACKAGES.md": {
         **each("a member of the file of packages", "title", "valid", "until", '"sale"',
                "slow.down", "slow.up", "slow.plan", "slow.reply"),
@@ -95,19 +95,13 @@ ALLOWED = {
         **each("FreeRADIUS' own", "home_server"),
         **each("the form of a name", "t-0123456789ab", "LAPSE-"),
     },
-    "docs/CLERK.md": each(
-        "a member of the file of rights: .ci/tools reads each", "corrections", "guests_an_hour",
-        "ends_an_hour", "corrections_an_hour", "operators", "cuts_an_hour", "/operator/",
-        "home_server"
-    ),
     "docs/DOCTOR.md": {
         **each("a fault's name: .ci/tools compares them", "book-shut", "drop-secret", "log-odd"),
         "radacctd/settings.conf": "a copy of a file of etc/freeradius",
     },
     "docs/START.md": {
-        "/desk/": "nginx' path",
-        **each("a member of the answers", "desk_guests", "desk_corrections", "operators",
-               "left_out", "virtual_servers"),
+        "/desk/": "a page of the service",
+        **each("a member of the answers", "left_out", "virtual_servers"),
         **each("a file, section or module of FreeRADIUS, or its database's",
                "filter_username", "mods-enabled/sql", "sql", "radacct", "accounting",
                "accounting = true"),
@@ -121,13 +115,9 @@ ALLOWED = {
         "radacctd = no": "a line of a client in FreeRADIUS",
     },
     "docs/DESK.md": {
-        "site.db": "the file of the pages' service",
-        "adm": "a group of the system",
-        "/logins/ACCOUNT/CLASS[/LOGIN[/STATION/SECONDS]]": "a path of the desk, with its parts",
-        "/overruns/sessions[/after/ACCOUNT]": "a path of the desk, with its parts",
-        "/accounts/ACCOUNT/PAGE": "a path of the desk, with its parts",
-        "/me/PAGE": "a path of the desk, with its parts",
-        **each("nginx' paths", "/desk/", "/operator/", "/redeem/"),
+        **each("a path of the desk", "/logins/ACCOUNT/CLASS[/LOGIN[/STATION/SECONDS]]", "/me/PAGE",
+               "/overruns/sessions[/after/ACCOUNT]", "/accounts/ACCOUNT/PAGE"),
+        **each("pages of the service", "/desk/", "/operator/", "/redeem/", "/vouchers/"),
         "revoke": "a command of radacctl key",
         **each("a member of settings.json", "url"),
     },
@@ -152,7 +142,6 @@ ALLOWED = {
     "man/radacctd-backup.8": {"FOLDER/book-wal": "a copy"},
     "man/radacctd-restore.8": {"BOOK.replaced-DATE-TIME": "restore makes it"},
     "docs/PAIR.md": {
-        "site.db": "the file of the pages' service",
         **each(
             "FreeRADIUS' own file, or a copy of one of etc/freeradius",
             "radiusd.conf",
@@ -172,7 +161,6 @@ ALLOWED = {
             "here: the queue for the other machine: 700 s old",
         ),
         "OnFailure=": "systemd's own",
-        "settings.json": "radacctl pages makes it",
         "radacctd/pair.conf": "a copy of a file of etc/pair",
     },
     "man/radacctd-outbox.8": {"/waiting": "a path of radacctd-outbox' own"},
@@ -184,7 +172,6 @@ ALLOWED = {
         ),
         **each("systemd's own", "LimitAS=", "LimitDATA=", "LimitFSIZE=", "MemoryMax="),
         **each("systemd's own", "activating (auto-restart)", "activating (start-post)"),
-        "Not confirmed yet": "web/desk/index.html shows it",
     },
     "man/radacctd.8": {".new": "the end of a name"},
     "man/radacctd.8.in": {".new": "the end of a name"},

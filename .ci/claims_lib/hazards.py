@@ -35,7 +35,6 @@ KEPT = {
     "docs/DEFINITIONS.md": ("for copies of the right delay, if no clock went back",),
     "docs/DESK.md": (
         "Anyone who can watch the network reads keys and answers",
-        "and else empty",
         "an access server that gives one session id to two guests",
         "the withdrawals since the copy of the night are lost",
         "So end keys at check-out",
@@ -65,8 +64,7 @@ KEPT = {
     "docs/FRONTDESK.md": (
         "Do not sell it a second time",
         "They count in the next shift, once the book has them",
-        "The totals count what was sold in this browser; the operator sees all sales",
-        "Do not clear the browser's data while a sale is not confirmed",
+        "It cannot be undone",
     ),
     "docs/GONE.md": (
         "What happened after the copy is lost",

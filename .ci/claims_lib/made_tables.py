@@ -134,15 +134,15 @@ EXPLAINED = {
     "sell": "[below](#credit-a-file-of-vouchers)",
     "debit": "[below](#take-money-back)",
     "voucher": "[DESK](DESK.md#printed-vouchers)",
-    "person": "[DESK](DESK.md#the-pages-service)",
-    "minute": "[DESK](DESK.md#the-pages-service)",
+    "person": "[DESK](DESK.md#put-a-proxy-in-front)",
+    "minute": "[DESK](DESK.md#what-sells)",
+    **dict.fromkeys(("sales", "balance", "show", "who"), "[DESK](DESK.md#who-sold-what)"),
     "packages": "[PACKAGES](PACKAGES.md#codes-that-log-in)",
     "guest": "[PACKAGES](PACKAGES.md#guests)",
     "allow": "[PACKAGES](PACKAGES.md#allowances)",
     "report": "[below](#reports)",
     "night": "[below](#copies-and-exports-each-night)",
     "site": "[GONE](GONE.md#restore-the-site)",
-    "pages": "[DESK](DESK.md#put-a-proxy-in-front)",
 }
 
 

@@ -18,7 +18,7 @@ from claims_lib.style import made_lines, plain
 from claims_lib.tree import ROOT, text_of
 
 OPERATORS = (
-    "README ACCESS-SERVERS BOOK CLERK DAMAGE DESK DOCTOR FILES FORWARD FREERADIUS FRONTDESK GONE"
+    "README ACCESS-SERVERS BOOK DAMAGE DESK DOCTOR FILES FORWARD FREERADIUS FRONTDESK GONE"
     " INSTALL PACKAGES PAIR"
     " SEMANTICS SITE SIZING START TROUBLE VOUCHERS WATCHING"
 ).split()
@@ -38,7 +38,7 @@ AT_ONCE = re.compile(r"After a power cut|The queues and outboxes drain|If its sy
 # Parts of which each row, or each item, names what holds it.
 WHOLE = (
     ("docs/PROOFS.md", "What is only tested", "row"),
-    ("docs/CLERK.md", "What you can rely on", "row"),
+    ("docs/DESK.md", "Who sold what", "row"),
     ("docs/DAMAGE.md", "What is not found", "text"),
     ("docs/FREERADIUS.md", "What you can rely on", "row"),
     ("docs/FREERADIUS.md", "Reports that do not reach radacctd", "row"),

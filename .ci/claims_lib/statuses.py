@@ -39,8 +39,7 @@ CAUSES = (
 )
 
 # Whose key has a role.
-BEARERS = {"Account": "a guest's", "Cashier": "the cashier's",
-           "Clerk": "the cashier's, with `accounts`", "Logins": "the front's"}
+BEARERS = dict(Account="a guest's", Cashier="a cashier's", Clerk="`accounts`", Logins="the front's")
 
 
 def bodies():

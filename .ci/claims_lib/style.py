@@ -17,7 +17,6 @@ MOST = {
     "docs/BENCHES.md": 770,
     "docs/BOOK.md": 1475,
     "docs/CHANGE.md": 955,
-    "docs/CLERK.md": 800,
     "docs/CODEC.md": 970,
     "docs/CONTRACTS.md": 100,
     "docs/DAMAGE.md": 1225,

@@ -18,7 +18,6 @@ RUN = {
 BY_HAND = {
     "ACCESS-SERVERS": "each setting is of another maker's device: interop/access-servers",
     "BOOK": "interop/backup, flips and run use the same commands over their own books",
-    "CLERK": "interop/clerk does each act, interop/packages the set-up's steps",
     "DOCTOR": "interop/doctor breaks a site in each way of the page",
     "DAMAGE": "each way needs damage of its own; interop/flips and interop/telling make some of it",
     "FRONTDESK": "a clerk's page: no command",

@@ -286,27 +286,25 @@ class Again(Folder):
         os.remove(self.path)
         self.assertTrue(web.has_debians_page(), "nginx does not start with a link to nothing")
 
-    def test_what_a_site_changes_of_nginx_stays(self):
-        """Its rates, and where it listens; other lines have a file that is never written again."""
+    def test_the_file_for_nginx_has_the_names_of_a_site(self):
+        """Its own lines have a file that no set-up writes."""
         one = wanted(name="x", currency="EUR", host="a.example.org")
-        text = web.server("", one)
-        self.assertEqual(web.server(text, one), text)
-        mine = text.replace("rate=60r/m", "rate=600r/m").replace("_req_zone $", "_req_zone  $")
-        mine = mine.replace("    listen 443 ssl http2;\n", "    listen 10.0.0.5:443 ssl http2;\n\n"
-                            "    # of the house\n    listen [fd00::5]:443 ssl;\n")
-        self.assertEqual(web.server(mine, one), mine)
-        self.assertEqual(web.server(mine.replace("gzip on;", "gzip off;"), one), mine)
-        # Who has a server more in that file has it in a copy of it, as is said.
-        self.assertEqual(web.server(f"{text}server {{\n    listen 81;\n}}\n", one), text)
-        self.patched(web, "FOLDER", self.folder)
-        self.assertIn("include radacctd/own*.conf;", text)
-        for name in ("own.conf", "login.conf"):
-            step = next(it for it in web.of(one, mock.Mock(keys={"cashier": "c", "site": "s"}))
-                        if getattr(it, "path", "") == os.path.join(self.folder, name))
-            self.assertEqual(step.wanted(b"# mine\n"), b"# mine\n")
-            self.assertTrue(step.wanted(None).startswith(b"# "))
-        self.put("old\n")
-        self.assertIn(f"{self.folder}/own.conf", web.Server(self.path, lambda _: "new\n").text())
+        text = web.server(one)
+        for line in ("server_name a.example.org;", f"ssl_certificate     {web.CERTIFICATE};",
+                     f"ssl_certificate_key {web.PRIVATE_KEY};", "/etc/nginx/radacctd-own*.conf;"):
+            self.assertIn(line, text)
+        self.assertNotIn("CHANGE", "".join(it.partition("#")[0] for it in text.splitlines()))
+        self.assertEqual(of_web.lines_of(text), of_web.lines_of(files.sample(of_web.SAMPLE)))
+        self.assertLess(text.count("\n"), 61)
+
+    def test_the_doctor_asks_for_socket_and_pages(self):
+        self.patched(of_web.look, "is_active", lambda _: True)
+        self.patched(of_web, "SOCKET", os.path.join(self.folder, "none"))
+        self.assertIn("is not there", next(of_web.answers("")).text)
+        self.patched(of_web, "SOCKET", self.folder)
+        for status, count in ((503, 3), (200, 1), ("ConnectionRefusedError", 3)):
+            self.patched(of_web, "asked", lambda *_, it=status: it)
+            self.assertEqual(len([*of_web.answers("")]), count)
 
     def test_what_a_site_decides_of_a_pair_stays(self):
         """In another folder of the queue reports for the other machine would wait for ever."""
@@ -326,36 +324,6 @@ class Again(Folder):
                     self.assertRaisesRegex(steps.Failed, "has 2 decimals", web.settings, old, one)
                 else:
                     self.assertIn('"decimals": 0', web.settings(old, one))
-
-    def test_the_pages_are_asked_where_nginx_listens(self):
-        for lines, place in (
-            ("listen 80;\n listen 443 ssl http2;", ("127.0.0.1", 443)), ("", ("127.0.0.1", 443)),
-            (" listen 10.0.0.5:443 ssl;", ("10.0.0.5", 443)), ("listen [::]:443 ssl;", ("::1", 443)),
-            ("listen 10.0.0.5:443 ssl;\nlisten *:8443 default ssl;", ("127.0.0.1", 8443)),
-            ("listen unix:/run/x ssl;\nlisten [fd00::5]:443 ssl;", ("fd00::5", 443)),
-        ):
-            self.assertEqual(of_web.heard_at(lines), place, lines)
-        text = "server_name a.example.org;\nlisten 10.0.0.5:443 ssl;\n"
-        self.patched(of_web.look, "is_active", lambda _: True)
-        seen = []
-        refused = lambda where, **_: seen.append(where) or os.stat("/missing")
-        self.patched(of_web.socket, "create_connection", refused)
-        found = [it.text for it in of_web.answers(mock.Mock(), text)]
-        self.assertEqual((len(found), set(seen)), (4, {("10.0.0.5", 443)}))
-
-    def test_who_logs_in_by_a_certificate_is_refused_without_one(self):
-        """A page that nobody may see is no fault; nor is one that asks for a password."""
-        self.patched(of_web, "FOLDER", self.folder)
-        self.patched(of_web.look, "is_active", lambda _: True)
-        for login, status in (("set $radacctd_login  password;", 401),
-                              ("# set $radacctd_login certificate;\n", 401),
-                              ("set $radacctd_login certificate;", 403)):
-            self.put(login, "login.conf")
-            for found in (401, 403):
-                self.patched(of_web, "asked", lambda _, path, it=found: (
-                    it if path == "/desk/" else 200))
-                told = list(of_web.answers(mock.Mock(), ""))
-                self.assertEqual(bool(told), found != status, (login, found))
 
     def test_a_key_of_codes_is_not_shown(self):
         self.put("packages {\n\tkey = change-me-0123456789\n}\n")
@@ -454,36 +422,6 @@ class Again(Folder):
             # Packages have a file of their own for its unit.
             self.assertEqual("freeradius.service" in asked[-1], state == "loaded")
 
-    @NEEDS_ROOT
-    @unittest.skipUnless(shutil.which("ps"), "ps is missing")
-    def test_who_got_a_group_later_is_started_again(self):
-        """nginx may read no balances, whatever /etc/group says now."""
-        user, group = "daemon", "adm"
-        for more, lacks in ((["--groups", group], False), (["--clear-groups"], True)):
-            words = ["setpriv", "--reuid", user, "--regid", user, *more, "sleep", "60"]
-            with subprocess.Popen(words) as child:
-                self.addCleanup(child.kill)
-                time.sleep(0.3)
-                for main in (os.getpid(), child.pid):
-                    unit = {"MainPID": str(main)}
-                    self.patched(machine.look, "properties", lambda *_, it=unit: it)
-                    self.assertEqual(machine.lacks_group("x.service", user, group), lacks)
-                self.assertFalse(machine.lacks_group("x.service", "www-data", group))
-                child.kill()
-        for lacks, another, is_done in ((False, False, True), (True, False, False),
-                                        (False, True, False)):
-            self.started(later=60)
-            self.patched(machine, "lacks_group", lambda *_, it=lacks: it)
-            self.patched(of_web, "serves_another", lambda _, it=another: it)
-            self.assertEqual(web.nginx().is_done(), is_done)
-
-    def test_the_doctor_says_so(self):
-        self.patched(book.look, "run", lambda *_: (0, places.READERS))
-        for lacks in (True, False):
-            self.patched(machine, "lacks_group", lambda *_, it=lacks: it)
-            found = [it.cure for it in book.groups(mock.Mock())]
-            self.assertEqual(found, ["systemctl restart nginx"] * lacks)
-
     def test_a_clock_that_was_ahead_makes_no_program_an_older_one(self):
         now = steps.time.time()
         self.patched(machine, "SCRIPTS", {self.put("x"): "x.service"})
@@ -531,9 +469,9 @@ class Served(Folder):
 
     def test_a_certificate_that_nginx_has_not_read_is_told(self):
         one, two = self.made("one.pem"), self.made("two of it.pem")
-        self.patched(of_web, "FOLDER", self.folder)
         names = []
-        text = f"server_name *.b ~x a.example.org;\nlisten {self.served(one, names)} ssl;\n"
+        text = "server_name *.b ~x a.example.org;\n"
+        self.patched(of_web, "HERE", ("127.0.0.1", self.served(one, names)))
         for more, count in ((f"ssl_certificate {one};\n", 0), (f'ssl_certificate "{two}";\n', 1),
                             (f"ssl_certificate {two};\nssl_certificate '{one}';\n", 0),
                             ("ssl_certificate $ssl_server_name.pem;\n", 0)):
@@ -541,9 +479,6 @@ class Served(Folder):
             self.assertEqual(found, [("certificate-old", "systemctl reload nginx")] * count, more)
         self.assertEqual(of_web.asked(text, "/x"), 404)
         self.assertEqual(set(names), {"a.example.org"})
-        self.put(f"ssl_certificate {one};\n", "own.conf")
-        text = of_web.whole(f"{text}ssl_certificate {two};\n")
-        self.assertEqual(list(of_web.certificates(text)), [])
 
     def test_a_certificate_of_nginx_folder_is_there(self):
         text = " ssl_certificate\tx/a.pem ;\n# ssl_certificate /b;\nssl_certificate_key /k;\n"
@@ -633,28 +568,28 @@ class Tested(Folder):
 class Pages(Folder):
     def test_a_fault_of_nginx_changes_nothing(self):
         """As a certificate that is not there: other pages of that nginx would be gone at a boot."""
-        self.patched(web, "CONF", "/etc/nginx/conf.d/radacctd-zz.conf")
-        self.patched(web, "FOLDER", "/etc/nginx/radacctd")
+        self.patched(of_web, "NGINX", "/etc/nginx/conf.d/radacctd-zz.conf")
         self.patched(files, "sample", lambda *_: self.sample)
         for more, is_right in (("", True), ("    ssl_certificate x;\n    listen 1 ssl;\n", False)):
             self.sample = f"server {{\n    listen 127.0.0.1:9;\n{more}}}\n"
-            found = list(web.of(wanted(name="x", currency="EUR", host="a.example.org"),
-                                mock.Mock(keys={"cashier": "c", "site": "s"})))
+            found = list(web.of(wanted(name="x", currency="EUR", host="a.example.org")))
             [trial] = [it for it in found if isinstance(it, steps.Trial)]
-            trial.steps = [it for it in trial.steps if it.path == web.CONF]
             self.assertLess(found.index(trial), found.index(trial.steps[0]))
             if is_right:
                 trial.do()
                 # A page of the site's own that would be hidden is told.
                 name = "    server_name b.example;\n"
                 self.sample = 2 * self.sample.replace("server {\n", f"server {{\n{name}")
+                [trial] = [it for it in web.of(wanted(name="x", currency="EUR",
+                                                      host="a.example.org"))
+                           if isinstance(it, steps.Trial)]
                 with contextlib.redirect_stdout(io.StringIO()) as said:
                     trial.do()
                 self.assertRegex(said.getvalue(), "nginx says: .*a.example.org.* ignored")
             else:
                 self.assertRaisesRegex(steps.Failed, "nginx would not start .* none was changed",
                                        trial.do)
-            self.assertFalse(os.path.lexists(web.CONF) or os.path.lexists(steps.TRIAL))
+            self.assertFalse(os.path.lexists(of_web.NGINX) or os.path.lexists(steps.TRIAL))
 
 
 class Copied(Folder):

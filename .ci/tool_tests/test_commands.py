@@ -1,20 +1,15 @@
 """What commands do with texts: keys in a configuration, files of vouchers, stock."""
 
 import contextlib
-import functools
-import gzip
 import io
-import json
 import os
-import re
 import subprocess
 import tempfile
 import tomllib
 import unittest
 from unittest import mock
 
-from radacctl import configuration, debits, desk, files, keys, main, names, sales_log
-from radacctl import stock
+from radacctl import configuration, debits, desk, files, keys, main, names, stock
 from radacctl.commands import allow, debit, guest, key, packages, sell
 from tool_tests import ROOT, Folder
 
@@ -110,6 +105,12 @@ class Debits(unittest.TestCase):
                 self.assertIsNone(books.journal.given(second))
                 books.journal.close()
 
+    def test_a_sale_at_the_pages_is_taken_back_there(self):
+        """Else it could be taken back twice: by its number there, and by another one by hand."""
+        for number in ("S-ACDEF-HJKMN-PQRTU", "VOID-S-ACDEF-HJKMN-PQRTU"):
+            self.assertRaisesRegex(ValueError, "taken back there", debit.debit_of, "al", "5", number)
+        self.assertEqual(debit.debit_of("al", "5", "VOID-S-1"), (b"al", 5, "VOID-S-1"))
+
     def test_what_was_taken_before_is_said_to_be_so(self):
         """Else who gives last month's numbers again believes that their sums were taken."""
         with tempfile.TemporaryDirectory() as folder:
@@ -137,7 +138,7 @@ class Debits(unittest.TestCase):
 class UsualDesk(unittest.TestCase):
     def test_the_tools_of_a_pair_sell_in_both_books(self):
         """By the outbox: a sale at a desk of a pair is in one book only."""
-        sales = (sell, []), (allow, ["x", "--month", "2026-12"]), (guest, ["list"])
+        sales = (allow, ["x", "--month", "2026-12"]), (guest, ["list"])
         sales += (packages, ["sell", "x"]), (packages, ["tick"])
         for path, port in (("/nonexistent", 8066), (__file__, 8067)):
             with mock.patch.object(desk, "PAIR", path):
@@ -145,131 +146,12 @@ class UsualDesk(unittest.TestCase):
                 self.assertEqual((found, desk.usual()), ({port}, ("127.0.0.1", port)))
 
 
-class Vouchers(unittest.TestCase):
-    def read(self, rows, known=frozenset()):
-        return sell.read(("voucher,account,sum\n" + rows).encode(), known)
-
-    def test_causes(self):
-        rows = "v-1,al,5\nV-1,%00,5\nV-2,al,0\nV-3,al\nV-4,al,5\n"
-        vouchers, refused, _, is_cut = self.read(rows)
-        self.assertEqual([it.voucher for it in vouchers], ["V-4"])
-        wanted = {2: "BadVoucher", 3: "BadAccount", 4: "BadSum", 5: "FieldCount"}
-        self.assertEqual((refused, is_cut), (wanted, False))
-
-    def test_an_account_of_the_book_is_credited(self):
-        vouchers, refused, said, _ = self.read("V-1, al ,5\n", frozenset({b" al "}))
-        self.assertEqual((vouchers[0].account, refused), (b" al ", {}))
-        self.assertIn("is in the book, and credited", said[0])
-
-    def test_who_cannot_send_has_not_sold(self):
-        """Whatever ends a sender: no sale of it is sent, and the status says so."""
-        with tempfile.TemporaryDirectory() as folder, contextlib.redirect_stderr(io.StringIO()), \
-                contextlib.redirect_stdout(io.StringIO()) as said:
-            path = os.path.join(folder, "key")
-            files.make(path, b"cash-key-00000001")
-            text = io.TextIOWrapper(io.BytesIO(b"voucher,account,sum\nV-1,al,5\n"))
-            with mock.patch.object(sell.sys, "stdin", text):
-                self.assertEqual(sell.main(["--key-file", path, "--host", "127.0.0..1"]), 1)
-        self.assertIn("added 0, repeated 0, refused 0\nstopped: ", said.getvalue())
-
+class Answers(unittest.TestCase):
     def test_causes_of_the_desk_are_an_imports(self):
         found = [sell.judged(it, 0, b"") for it in (desk.NEW, desk.DIFFERS, desk.LIMIT)]
         self.assertEqual(found, ["new", "VoucherDiffers", "BalanceLimit"])
         for it in (desk.NO_KEY, desk.STRANGE):
             self.assertRaises(sell.Stop, sell.judged, it, 401, b"")
-
-
-
-class Logged(unittest.TestCase):
-    """The sales of nginx' log as a file that `sell` takes again."""
-
-    def setUp(self):
-        folder = tempfile.TemporaryDirectory()
-        self.addCleanup(folder.cleanup)
-        self.log = os.path.join(folder.name, "sales.log")
-        self.but = os.path.join(folder.name, "topups.csv")
-        lines = self.line("D-3", "al", 7), self.line("D-2", "al", 6, 200, "2026-11-26")
-        self.write(self.log, *lines, "no line of ours\n", self.line("D-9", "al", 9, 409))
-        self.write(f"{self.log}.1", self.line("D-2", "al", 5), self.line("D-4", "al", 8, 503),
-                   self.line("D-3", "al", 7, 499), self.line("X 1", "al", 8),
-                   self.line("D-5", "al", "x"))
-        older = self.line("D-1", "=m\u00fcller, 1", 3, 201, "2026-11-25")
-        with gzip.open(f"{self.log}.2.gz", "wb") as file:
-            file.write(older.encode())
-
-    def line(self, number, account, units, status=201, day="2026-11-26"):
-        sale = json.dumps({"voucher": number, "account": names.for_desk(account.encode()),
-                           "sum": units})
-        return json.dumps({"time": f"{day}T10:00:00+00:00", "from": "10.0.0.5", "cashier": "anna",
-                           "book": "", "status": status, "sale": sale}) + "\n"
-
-    def write(self, path, *lines):
-        with open(path, "w", encoding="utf-8") as file:
-            file.writelines(lines)
-
-    def printed(self, *more):
-        with contextlib.redirect_stdout(io.StringIO()) as file, contextlib.redirect_stderr(
-            io.StringIO()
-        ) as said:
-            self.assertEqual(sell.main(["--logged", "--sales", self.log, *more]), 0)
-        vouchers, refused, *_ = sell.read(file.getvalue().encode(), {"=müller, 1".encode()})
-        self.assertEqual(refused, {})
-        return [it[1:] for it in vouchers], said.getvalue()
-
-    def test_sell_takes_the_file(self):
-        found, said = self.printed()
-        self.assertEqual(found, [("D-1", "=müller, 1".encode(), 3), ("D-2", b"al", 5),
-                                 ("D-3", b"al", 7)])
-        self.assertIn("D-4 was not answered", said)
-        self.assertNotIn("D-3 was", said)
-        self.assertIn("3 sales, 15 units", said)
-
-    def test_from_a_day_on_and_what_the_book_lacks(self):
-        self.assertEqual([it[0] for it in self.printed("--since", "2026-11-26")[0]], ["D-2", "D-3"])
-        self.write(self.but, "voucher,account,sum,when\n", "D-2,al,5,1\n", "D-4,al,8,1\n")
-        found, said = self.printed("--but", self.but)
-        self.assertEqual([it[0] for it in found], ["D-1", "D-3"])
-        self.assertNotIn("D-4", said)
-
-    def test_no_export(self):
-        header = "voucher,account,sum,when\n"
-        none = "is no export of topups"
-        for text, why in (("", none), ("voucher,account,sum\nD-2,al,5\n", none),
-                          (header + "D-2,al", "is cut"), (header + "D-2,al,5,1,6\n", "is cut")):
-            self.write(self.but, text)
-            with contextlib.redirect_stderr(io.StringIO()) as said:
-                words = ["--logged", "--sales", self.log, "--but", self.but]
-                self.assertEqual(main.run(sell, words), 1)
-            self.assertIn(why, said.getvalue())
-
-    def test_a_log_that_rotates_meanwhile_is_read_whole(self):
-        """Each part gets the name of an older one, as they are read or opened."""
-        wanted, regular = [*sales_log.sales_of(self.log)], files.regular
-
-        def rotate(at, folder=None, name=None):
-            left[0] -= 1
-            if left[0] == at:
-                for old, new in ((".2.gz", ".3.gz"), (".1", ".2"), ("", ".1")):
-                    os.rename(self.log + old, self.log + new)
-                self.write(self.log)
-            return regular(folder, name) if name else None
-
-        self.assertEqual(len(wanted), 6)
-        found, left = sales_log.sales_of(self.log), [1]
-        self.assertEqual([next(found), rotate(0), *found], [wanted[0], None, *wanted[1:]])
-        for at in (2, 1, 0):
-            self.setUp()
-            left = [3]
-            with mock.patch.object(files, "regular", functools.partial(rotate, at)):
-                self.assertEqual([*sales_log.sales_of(self.log)], wanted)
-            self.assertLess(left[0], 0)
-
-    def test_no_link_or_pipe_of_the_folder_is_read(self):
-        os.mkfifo(f"{self.log}.4")
-        os.symlink(self.but, f"{self.log}.5")
-        with contextlib.redirect_stderr(io.StringIO()) as said:
-            self.assertEqual(len([*sales_log.sales_of(self.log)]), 6)
-        self.assertEqual(said.getvalue().count("cannot read"), 2)
 
 
 class Cards(Folder):

@@ -405,11 +405,7 @@ class Cures(unittest.TestCase):
             path = os.path.join(os.path.realpath(folder), name)
             files.make(path, b"", 0o644)
             [fault] = look.open_to_others(path)
-            os.symlink("/etc/passwd", os.path.join(folder, "x-link"))
-            with unittest.mock.patch.object(pages, "LOGS", f"{folder}/x*"):
-                [log] = pages.modes("")
         self.assertEqual(shlex.split(fault.cure), ["chmod", "o=", path])
-        self.assertEqual(shlex.split(log.cure)[:3], ["chmod", "o=", f"{path};"])
         with unittest.mock.patch.object(freeradius, "settings", lambda: {"queue": f"/{name}"}), \
                 unittest.mock.patch.object(fronts, "states", lambda: []), said((0, "root")):
             found = [it.cure for it in fronts.queue()]
@@ -420,7 +416,7 @@ class Cures(unittest.TestCase):
             self.assertEqual(machine.unit_of("9"), "user@7.service")
 
     def test_of_a_unit_that_failed(self):
-        units = "radacctd-nightly.service", "radacctd-clerk-work@7-1.service"
+        units = "radacctd-nightly.service", "radacctd-state@7-1.service"
         lines = "".join(f"{it} loaded failed failed x\n" for it in units)
         # One whose file has gone, as that of a timer that a removal took, is started no more.
         with said((0, lines + "radacctd-clock.timer not-found failed failed x\n")):
@@ -747,7 +743,7 @@ class Unseen(unittest.TestCase):
 
     def test_each_trace_of_a_part_tells_that_it_is_wanted(self):
         for trace, name in ((f"{freeradius.path('sites-enabled/radacctd')}", "has_front"),
-                            ("/etc/nginx/radacctd/cashier.conf", "has_pages"),
+                            (kind.NGINX, "has_pages"),
                             (freeradius.path("radacctd", "pair.conf"), "has_pair")):
             with unittest.mock.patch("os.path.lexists", lambda path, it=trace: path == it):
                 self.assertTrue(getattr(kind.Kind(), name), name)

@@ -138,18 +138,16 @@ class Names(unittest.TestCase):
 
 
 class Away(unittest.TestCase):
-    """A 503 means two things, by its body: the page for trouble has a row of each."""
+    """The page for trouble has a row of each body of a 503."""
 
     def test_each_503_has_a_row(self):
-        with open(os.path.join(ROOT, "etc/nginx/radacctd.conf"), encoding="utf-8") as file:
-            bodies = set(re.findall(r"return 503 '\{\"error\":\"(\w+)\"\}'", file.read()))
         with open(os.path.join(ROOT, "docs/DESK.md"), encoding="utf-8") as file:
-            bodies |= set(re.findall(r'\| 503 \| `\{"error":"(\w+)"\}` \|', file.read()))
-        self.assertEqual(bodies, {"away", "unavailable"})
+            bodies = set(re.findall(r'\| 503 \| `\{"error":"(\w+)"\}` \|', file.read()))
+        self.assertEqual(bodies, {"unavailable"})
         with open(os.path.join(ROOT, "docs/TROUBLE.md"), encoding="utf-8") as file:
             rows = re.findall(r"(?m)^\| 503 with `(\w+)` \| (.*?) \| (.*) \|$", file.read())
         self.assertEqual({name for name, _, _ in rows}, bodies)
-        self.assertEqual(len({cure for _, _, cure in rows}), 2)
+        self.assertEqual(len({cure for _, _, cure in rows}), 1)
 
 
 class Money(unittest.TestCase):

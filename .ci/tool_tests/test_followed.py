@@ -55,12 +55,12 @@ class Followed(unittest.TestCase):
         self.assertEqual(first_words(lines), ["cd", "cp", "editor", "radacctd", "mv", "journalctl"])
 
     def test_desk(self):
-        proxy = desk_page.steps_of("DESK.md", "## Put a proxy in front", "| Page | For |")
+        store = desk_page.steps_of("## What sells", "## Put a proxy in front")
+        self.assertIn("systemctl enable --now radacctd-minute.timer", store)
+        proxy = desk_page.steps_of("## Put a proxy in front", "| Page | For |")
         self.assertEqual(proxy[0].split()[:2], ["apt", "install"])
-        self.assertIn("radacctl pages", proxy)
-        service = desk_page.steps_of("DESK.md", "### The pages' service", "If a page says that it")
-        self.assertIn("systemctl enable --now radacctd-site.socket radacctd-minute.timer", service)
-        self.assertIn("radacctl person put anna", service)
+        for line in ("radacctl person put anna", "systemctl enable --now radacctd-site.socket"):
+            self.assertIn(line, proxy)
 
     def test_install(self):
         steps = text_of("INSTALL").split("## The first start\n")[1].split("\nIf the start fails")[0]

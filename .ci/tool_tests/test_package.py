@@ -22,7 +22,6 @@ ADD_UP = ("SystemCallFilter", "CapabilityBoundingSet")
 # Root's: it works in folders of other users, as these, and looks at their processes.
 ROOTS = {"PrivateUsers", "ProcSubset", "RemoveIPC", "CapabilityBoundingSet", "SystemCallFilter"}
 EXCEPTIONS = {
-    "radacctd-clerk-work@.service": ROOTS | {"ProtectProc"},
     # It gives systemd an order, reads /proc/stat, and has no right and no network.
     "radacctd-clock.service": {"PrivateUsers", "ProcSubset", "RemoveIPC", "ProtectProc"},
     # A group reads what it writes.
@@ -109,18 +108,6 @@ class Installation(unittest.TestCase):
         self.assertRegex(done.stderr, "Then install this package again.*systemctl enable --now "
                                       "radacctd.*\n.*radacctl setup")
 
-    def test_a_unit_may_run_what_is_below_its_prefix(self):
-        """bin/install takes any, and writes it into the units in the place of /usr/local."""
-        count = 0
-        for path in glob.glob(os.path.join(ROOT, "etc", "*", "*.service")):
-            unit = text(path).replace("/usr/local", "/opt/one")
-            for folders in re.findall(r"(?m)^ExecPaths=(.+)", unit):
-                for it in re.findall(r"/opt/one/\S+", unit):
-                    inside = tuple(f"{folder}/" for folder in folders.split())
-                    self.assertTrue(it.startswith(inside), path)
-                    count += 1
-        self.assertEqual(count, 1)
-
     def test_a_pairs_tools_are_where_its_units_run_them(self):
         """With each prefix: bin/install writes it into no part of radacctl."""
         runs = set()
@@ -149,7 +136,7 @@ class Purge(unittest.TestCase):
 
 
 class Removal(unittest.TestCase):
-    """While nginx or FreeRADIUS has links into the package, nothing is removed."""
+    """While FreeRADIUS has links into the package, nothing is removed."""
 
     def test_what_would_not_start_again_is_told(self):
         script = text("etc", "package", "prerm").replace("@ALL_UNITS@", "").replace("@UNITS@", "")
@@ -157,15 +144,13 @@ class Removal(unittest.TestCase):
             script = script.replace("/etc/", f"{folder}/etc/").replace("/var/lib", folder)
             script = script.replace("/run/systemd", f"{folder}/none")
             script = re.sub(r"/usr/s?bin/", f"{folder}/", script)
-            places = {"nginx": ("nginx/radacctd/headers.conf", "nginx/conf.d/radacctd.conf"),
-                      "FreeRADIUS": ("freeradius/3.0/policy.d/radacctd", "freeradius/own")}
+            places = {"FreeRADIUS": ("freeradius/3.0/policy.d/radacctd", "freeradius/own")}
             for name in (it for both in places.values() for it in both):
                 os.makedirs(os.path.dirname(os.path.join(folder, "etc", name)), exist_ok=True)
             run = lambda act: subprocess.run(["sh", "-c", script, "prerm", act], text=True,
                                              capture_output=True)
             self.assertEqual(run("remove").returncode, 0)
-            for program, (who, names) in zip(("nginx", "freeradius"),
-                                             places.items()):
+            for program, (who, names) in zip(("freeradius",), places.items()):
                 path, own, program = (os.path.join(folder, it) for it in (
                     *(f"etc/{it}" for it in names), program))
                 for it in (own, program):

@@ -54,7 +54,7 @@ class Report(Folder):
         out, said = os.path.join(self.folder, "out"), io.StringIO()
         words = ["--folder", self.folder, "--csv", out, "--settings", f"{self.folder}/none"]
         with contextlib.redirect_stdout(said), contextlib.redirect_stderr(said):
-            found = report.main([*words, "--sales", f"{self.folder}/none", "day", BEFORE])
+            found = report.main([*words, "day", BEFORE])
         self.assertEqual(found, status, said.getvalue())
         tables = {}
         for name in os.listdir(out):

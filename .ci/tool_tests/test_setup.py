@@ -12,7 +12,7 @@ import unittest
 from unittest import mock
 
 from radacctl import files, freeradius, money as moneys, site as places
-from radacctl.commands import allow, debit, pages, setup, site
+from radacctl.commands import allow, debit, setup, site
 from radacctl.setup import alone, answers, away, front, pair, proof, sql, steps, web
 import tool_tests
 
@@ -277,7 +277,7 @@ class Site(Folder):
 
     def test_a_sample_that_is_missing_empties_no_file(self):
         with mock.patch.object(places, "shared", lambda *_: self.path):
-            for change in (lambda: web.server("", self.wanted()), lambda: list(web.logs()),
+            for change in (lambda: web.server(self.wanted()),
                            lambda: front.settings(None, self.wanted(), "x")):
                 self.assertRaises(OSError, change)
 
@@ -346,20 +346,17 @@ class Certificates(Folder):
             self.assertTrue(web.has_certificate(host), host)
 
 
-class Cashiers(Folder):
+class Persons(unittest.TestCase):
     def test_one_who_is_not_in_the_answers_is_told(self):
-        """Setup ends no login by itself: of a site that was set up by hand it knows no cashier."""
-        self.write(b"# ours: two\nanna:$2y$x\ncarla:$2y$y\nde luca:$2y$z\n",
-                   path=os.path.join(self.folder, "cashiers"))
+        """Setup ends no login by itself: of a site that was set up by hand it knows nobody."""
         words = {"name": "x", "currency": "EUR", "decimals": 2, "plan": [PLAN], "server": "10.0.0.5"}
         told = lambda **more: list(web.others(answers.Answers({**words, **more})))
-        with mock.patch.object(web, "FOLDER", self.folder):
+        persons = ["anna: operator", "carla: cashier", "jörg: cashier"]
+        with mock.patch.object(web, "persons", lambda: persons), \
+                mock.patch.object(web.places, "DATABASE", __file__):
             found = told(host="a.example.org", cashiers=["anna", "ben"])
-            self.assertEqual([it.split(" may ")[0] for it in found], ["carla", "de luca"])
-            self.assertIn(f"htpasswd -D {self.folder}/cashiers carla", found[0])
-            self.assertIn(f"htpasswd -D {self.folder}/cashiers 'de luca'", found[1])
-            left = told(host="a.example.org", cashiers=["anna", "carla"])
-            self.assertEqual(left, found[1:])
+            self.assertEqual([it.split(" may ")[0] for it in found], ["carla", "jörg"])
+            self.assertIn("radacctl person remove carla", found[0])
             self.assertEqual(told(), [])
 
 
@@ -417,16 +414,6 @@ class Proving(unittest.TestCase):
 
 
 class Others(Folder):
-    def test_the_pages_settings_are_on_the_disk(self):
-        self.write(b"{}")
-        given = ["--to", os.path.join(self.folder, "web")]
-        for count in (2, 0):
-            with mock.patch("os.fsync") as fsync, contextlib.redirect_stdout(io.StringIO()):
-                pages.main(given)
-            # The file, and its name.
-            self.assertEqual(fsync.call_count, count)
-        self.assertEqual(stat.S_IMODE(os.stat(f"{given[1]}/settings.json").st_mode), 0o644)
-
     def test_a_card_outlives_a_power_cut(self):
         with mock.patch("os.fsync") as fsync:
             files.make_named(self.path, b"card")

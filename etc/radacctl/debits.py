@@ -1,24 +1,21 @@
 """Debits: money that is taken from an account once, as a report of a plan of its own.
 
 A debit is in the journal before it is sent. Its number is the session's id: so the same one again
-takes nothing more. The packet is made here: radclient is FreeRADIUS', which a site need not have,
-and takes no name of any octets.
+takes nothing more. The report is the kit's (site/core/corrections.py).
 """
 
 import contextlib
 import csv
-import hashlib
-import hmac
 import io
 import os
 import socket
 import time
 import tomllib
 
+from radacctd_site.core.corrections import CLASS, CLIENT, is_reply, request
 from radacctl import desk, files, names, plans, program, site, stock
 from radacctl.names import shown
 
-CLIENT, CLASS = "books", "debit"
 # What stands before the number of a sale that is taken back by hand, or of which a part is.
 BY_HAND = ("VOID-", "REFUND-")
 FILE = f"{site.BOOKS}/debits.csv"
@@ -26,7 +23,6 @@ HEADER = b"moment,event,number,account,sum\n"
 GIVEN, ANSWERED = "given", "answered"
 # How often the report is sent, and how long an answer is waited for each time, in seconds.
 TRIES, PATIENCE = 5, 3
-STOP = 2
 # What the unit of the server reads, and what a machine of a pair has.
 DEFAULTS = os.environ.get("RADACCTD_DEFAULTS", site.DEFAULTS)
 PAIR = DEFAULTS + "-pair"
@@ -143,25 +139,6 @@ def others_of(number):
     """The other numbers by which the same sale is taken back: by hand, or at the page."""
     found = next((it for it in BY_HAND if number.startswith(it)), None)
     return [number.removeprefix(found)] if found else [it + number for it in BY_HAND]
-
-
-def request(number, account, total, secret):
-    """The signed report (RFC 2866, section 3): a Stop of so many octets from the user."""
-    gigawords, octets = (it.to_bytes(4, "big") for it in divmod(total, 1 << 32))
-    values = {40: STOP.to_bytes(4, "big"), 44: number.encode(), 1: account, 25: CLASS.encode(),
-              42: octets, 52: gigawords}
-    attributes = b"".join(bytes([kind, len(it) + 2]) + it for kind, it in values.items())
-    head = bytes([4, os.urandom(1)[0]]) + (20 + len(attributes)).to_bytes(2, "big")
-    return head + hashlib.md5(head + bytes(16) + attributes + secret).digest() + attributes
-
-
-def is_reply(reply, sent, secret):
-    """Whether this is the signed answer to the report that was sent."""
-    if len(reply) < 20 or reply[:2] != bytes([5, sent[1]]):
-        return False
-    reply = reply[: int.from_bytes(reply[2:4], "big")]
-    digest = hashlib.md5(reply[:4] + sent[4:20] + reply[20:] + secret).digest()
-    return hmac.compare_digest(reply[4:20], digest)
 
 
 def sender_from(source, words):

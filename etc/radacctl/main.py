@@ -13,7 +13,6 @@ COMMANDS = {
     "setup": "sets a site up, or completes it",
     "doctor": "says what is wrong with a site, and what to do",
     "key": "makes, ends and lists guests' keys",
-    "sell": "credits a file of vouchers",
     "debit": "takes money from an account, once",
     "packages": "prints, sells and ends codes that log in",
     "guest": "makes a guest's login, page and card, and ends them",
@@ -21,13 +20,10 @@ COMMANDS = {
     "report": "reports a day or a month",
     "night": "copies the site for the night",
     "site": "copies what a site has besides the book",
-    "pages": "makes the folder that the pages read",
 }
 # Those of the kit's features.
 KIT = {name: text for name, (text, _) in features.commands().items()}
 COMMANDS = {**COMMANDS, **KIT}
-# What nginx and systemd start for the front desk's page, by links of these names.
-PARTS = {"clerk-page": "radacctl.clerk.page", "clerk-work": "radacctl.clerk.work"}
 # These are programs of their own.
 SCRIPTS = {"night": "radacctd-nightly"}
 HELP = """\
@@ -59,10 +55,6 @@ def command_of(words):
 
 def main(path):
     """Runs what the command line says. `path` is that of the program."""
-    called = os.path.basename(sys.argv[0])
-    if called in PARTS:
-        program.NAME = called
-        return run(importlib.import_module(PARTS[called]), sys.argv[1:])
     command, words = command_of(sys.argv[1:])
     if command in SCRIPTS:
         script = os.path.join(os.path.dirname(os.path.realpath(path)), SCRIPTS[command])

@@ -1,38 +1,52 @@
 """What the site asks of the book: each act is a row before it is a request.
 
-A row has the number, the account and the sum of a credit. It is on the disk before the one request,
-and gets the answer after it. What has none is sent again each minute: the book takes a number once,
-for one account and one sum, so that nothing else has to guard it.
+A row has the number, the account and the sum of a credit, or of a correction: then the sum is below
+0. It is on the disk before the one request, and gets the answer after it. What has none is sent
+again each minute: the book takes a number once, for one account and one sum, so that nothing else has
+to guard it.
 """
 
 import collections
+import datetime
 import time
 
 from radacctd_site.core import desk as desks
 
-# What is known of each credit, and where it comes from: the name of what is done, and a cashier.
-Act = collections.namedtuple("Act", "number account sum kind who")
+# What is known of each credit, and where it comes from: the name of what is done, and a cashier. What
+# was paid is the sum itself, unless it is said.
+Act = collections.namedtuple("Act", "number account sum kind who paid", defaults=[None])
 TABLES = """
 CREATE TABLE IF NOT EXISTS act (number TEXT NOT NULL, account TEXT NOT NULL, sum INTEGER NOT NULL,
-    kind TEXT NOT NULL, who TEXT NOT NULL, begun INTEGER NOT NULL, answer TEXT, answered INTEGER,
-    PRIMARY KEY (number, account, sum)) STRICT;
+    kind TEXT NOT NULL, who TEXT NOT NULL, paid INTEGER NOT NULL, begun INTEGER NOT NULL,
+    answer TEXT, answered INTEGER, PRIMARY KEY (number, account, sum)) STRICT;
 CREATE INDEX IF NOT EXISTS act_open ON act (begun) WHERE answer IS NULL;
+CREATE INDEX IF NOT EXISTS act_account ON act (account);
+CREATE INDEX IF NOT EXISTS act_who ON act (who);
 """
 # What ends an act: the book has said what became of it, and will say no other thing.
 TAKEN = (desks.NEW, desks.REPEAT)
 FINAL = (*TAKEN, desks.DIFFERS, desks.LIMIT)
+# What is said of it.
+SOLD, WAITING, REFUSED = "sold", "waiting", "refused"
 
 
 def begin(db, acts):
     """Writes acts within a transaction of the caller's. One that is there stays as it is."""
     now = int(time.time())
-    db.executemany("INSERT INTO act (number, account, sum, kind, who, begun) "
-                   "VALUES (?, ?, ?, ?, ?, ?) ON CONFLICT DO NOTHING", [(*it, now) for it in acts])
+    db.executemany("INSERT INTO act (number, account, sum, kind, who, paid, begun) "
+                   "VALUES (?, ?, ?, ?, ?, ?, ?) ON CONFLICT DO NOTHING",
+                   [(*it[:5], it.sum if it.paid is None else it.paid, now) for it in acts])
+
+
+def ask(book, act):
+    """One request: what the book said of an act."""
+    does, total = (book.credit, act.sum) if act.sum > 0 else (book.debit, -act.sum)
+    return does(act.account, total, act.number)
 
 
 def send(db, book, act):
     """One request for an act that is on the disk: what the book said of it."""
-    found = book.credit(act.account, act.sum, act.number)
+    found = ask(book, act)
     if found in FINAL:
         with db:
             db.execute("UPDATE act SET answer = ?, answered = ? WHERE number = ? AND account = ? "
@@ -52,10 +66,68 @@ def again(db, book):
     the desk does not understand keeps nothing else back.
     """
     done = 0
-    for row in db.execute("SELECT number, account, sum, kind, who FROM act WHERE answer IS NULL "
+    for row in db.execute("SELECT number, account, sum, kind, who, paid FROM act WHERE answer IS NULL "
                           "ORDER BY begun, number").fetchall():
         found = send(db, book, Act(*row))
         if found in (desks.AWAY, desks.NO_KEY):
             break
         done += found in FINAL
     return done
+
+
+def of_account(db, account):
+    """What the book has of an account by an act of this site; the account as the desk spells it."""
+    return db.execute("SELECT * FROM act WHERE account = ? AND answer IN ('new', 'repeat') "
+                      "ORDER BY answered DESC, rowid DESC", (account,)).fetchall()
+
+
+def state_of(row):
+    if row["answer"] in TAKEN:
+        return SOLD
+    return REFUSED if row["answer"] in FINAL else WAITING
+
+
+def second_of(day):
+    """The first second of a day by the clock of the site."""
+    return int(datetime.datetime.combine(day, datetime.time()).timestamp())
+
+
+def of_days(db, first, last, who=None):
+    """What was paid in some days, by the moment of the book's answer, or else as it was begun; by one
+    person, or all.
+    """
+    end = second_of(last + datetime.timedelta(days=1))
+    return db.execute("SELECT *, coalesce(answered, begun) AS moment FROM act WHERE paid <> 0 AND "
+                      "moment >= ? AND moment < ? AND (? IS NULL OR who = ?) ORDER BY moment, rowid",
+                      (second_of(first), end, who, who)).fetchall()
+
+
+def waiting(db):
+    """How many the book has not answered yet."""
+    return db.execute("SELECT count(*) FROM act WHERE answer IS NULL").fetchone()[0]
+
+
+def sums(rows):
+    """How much was sold and given back, and both together."""
+    sold = sum(it["paid"] for it in rows if it["paid"] > 0)
+    back = sum(it["paid"] for it in rows if it["paid"] < 0)
+    return {"count": sum(it["paid"] > 0 for it in rows), "sold": sold, "back": back,
+            "net": sold + back}
+
+
+def total(found):
+    """Such sums together."""
+    counter = collections.Counter()
+    for it in found:
+        counter.update(it)
+    return {key: counter[key] for key in ("count", "sold", "back", "net")}
+
+
+def by_day(rows):
+    """The sums of each day and person, of what the book has."""
+    groups = {}
+    for it in rows:
+        if state_of(it) == SOLD:
+            day = time.strftime("%Y-%m-%d", time.localtime(it["moment"]))
+            groups.setdefault((day, it["who"]), []).append(it)
+    return [(*key, sums(groups[key])) for key in sorted(groups)]

@@ -30,13 +30,15 @@ def parser(name, module):
 def manual(name):
     """What the manual page says of a command: its text, and each act with what it takes."""
     module, lines = module_of(name), []
-    for found in parser(name, module)._actions:
-        for act in getattr(found, "_choices_actions", ()):
-            one = found.choices[act.dest]
-            words = " ".join(["radacctl", name, act.dest, *spelled(one)])
-            lines += ["", f"    {words}", f"        {act.help}"]
-            lines += [f"        {'/'.join(it.option_strings) or it.dest}: {it.help}"
-                      for it in one._actions if it.help and it.dest != "help"]
+    whole = parser(name, module)
+    acts = [(f"{name} {act.dest}", found.choices[act.dest], [act.help])
+            for found in whole._actions for act in getattr(found, "_choices_actions", ())]
+    for words, one, text in acts or [(name, whole, [])]:
+        options = [f"{'/'.join(it.option_strings) or it.dest}: {it.help}"
+                   for it in one._actions if it.help and it.dest != "help"]
+        if text or options:
+            lines += ["", f"    {' '.join(['radacctl', words, *spelled(one)])}",
+                      *(f"        {it}" for it in [*text, *options])]
     return "\n".join([module.__doc__.rstrip(), *lines])
 
 

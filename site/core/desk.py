@@ -6,8 +6,9 @@ import json
 import os
 import re
 import stat
+import urllib.parse
 
-from radacctd_site.core import Failed, told
+from radacctd_site.core import Failed, corrections, told
 
 # The number of a voucher, and a key.
 NUMBER, TOKEN = re.compile("[A-Z0-9-]{1,32}"), re.compile("[A-Za-z0-9-]{16,64}")
@@ -155,8 +156,23 @@ class Desk:
     # In seconds: for a connection, and for an answer. nginx waits for 20.
     CONNECT, PATIENCE = 2, 6
 
-    def __init__(self, where, key):
-        self.where, self.key = where, key
+    def __init__(self, where, key, secret=b""):
+        self.where, self.key, self.secret = where, key, secret
+
+    def look(self, path):
+        """The status and the object that is answered to a question; 0 if there is no answer."""
+        return read([self.where], path, self.key)
+
+    def debit(self, account, total, number):
+        """What became of a correction: new if the book answered it, else nobody knows."""
+        octets = urllib.parse.unquote_to_bytes(account)
+        is_taken = self.corrects() and corrections.take(
+            corrections.where(), self.secret, octets, total, number)
+        return NEW if is_taken else STRANGE
+
+    def corrects(self):
+        """Whether a correction may be sent: without its plan the book would price it otherwise."""
+        return bool(self.secret) and corrections.has_plan()
 
     def credit(self, account, total, number):
         """What became of a voucher. One without an answer may have been credited."""

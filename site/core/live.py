@@ -13,7 +13,8 @@ import urllib.parse
 from radacctd_site.core import features
 
 SETTINGS = {"name": "Hotel Łódź", "url": "https://localhost", "currency": "EUR", "decimals": 2}
-GUNICORN = "/usr/bin/gunicorn"
+# The secret of the client that corrects, as interop's servers have it.
+SECRET, GUNICORN = "testing-123", "/usr/bin/gunicorn"
 # What runs a command of a feature, where the kit is found as `kit` says.
 COMMAND = "import sys; from radacctd_site.core import cli; sys.exit(cli.main(sys.argv[1], sys.argv[2:]))"
 
@@ -61,6 +62,7 @@ class Service:
         if not os.path.lexists(f"{folder}/kit/{features.NAME}"):
             os.symlink(features.TOP, f"{folder}/kit/{features.NAME}")
         self.write("radacctd-site.key", key + "\n")
+        self.write("radacctd-books.secret", SECRET + "\n")
         self.own = settings
         self.settings()
         self.env = {
@@ -68,6 +70,13 @@ class Service:
             "RADACCTD_SITE": f"{folder}/site", "RADACCTD_SETTINGS": f"{folder}/settings.json",
             "RADACCTD_DESK": f"127.0.0.1:{desk}", "CREDENTIALS_DIRECTORY": folder,
         }
+
+    def of_book(self, folder, port):
+        """Where the book writes balances and plans, and the port at which it hears reports."""
+        self.write("defaults", f"RADACCTD_RADIUS_PORT={port}\n")
+        self.env |= {"RADACCTD_BALANCES": f"{folder}/balances.csv",
+                     "RADACCTD_PLANS": f"{folder}/plans.json",
+                     "RADACCTD_DEFAULTS": f"{self.folder}/defaults"}
 
     def settings(self, **more):
         self.write("settings.json", json.dumps({**SETTINGS, **self.own, **more}))

@@ -25,6 +25,8 @@ CREATE INDEX IF NOT EXISTS try_what ON try (what, moment);
 """
 # In seconds: how long a session lasts, and in which time how often somebody may be wrong.
 LASTS, WINDOW, TRIES = 12 * 3600, 60, 5
+# The cost of a try of a password, by scrypt.
+COST = 1 << 14
 NAME, SHORTEST = re.compile(r"[\w.@][\w.@-]{0,31}"), 10
 
 
@@ -33,7 +35,7 @@ def digest_of(token):
 
 
 def scrypted(password, salt):
-    return hashlib.scrypt(password.encode("utf-8", "surrogateescape"), salt=salt, n=1 << 14, r=8, p=1)
+    return hashlib.scrypt(password.encode("utf-8", "surrogateescape"), salt=salt, n=COST, r=8, p=1)
 
 
 def put(db, name, role, password):

@@ -10,16 +10,18 @@ USUAL = "/var/lib/radacctd-site"
 FOLDER = os.environ.get("RADACCTD_SITE", USUAL)
 DATABASE = os.path.join(FOLDER, "site.db")
 SETTINGS = os.environ.get("RADACCTD_SETTINGS", money.SETTINGS)
-# The key of a cashier for the book's desk. systemd hands it to the service, whose user may not read
-# the file.
-KEY = os.path.join(os.environ.get("CREDENTIALS_DIRECTORY", "/etc"), "radacctd-site.key")
+# The key of a cashier for the book's desk, and the secret of the client that corrects. systemd hands
+# them to the service, whose user may not read the files.
+KEY, SECRET = (os.path.join(os.environ.get("CREDENTIALS_DIRECTORY", "/etc"), it)
+               for it in ("radacctd-site.key", "radacctd-books.secret"))
 
 
 def book():
-    """The book's desk, with the key."""
-    where = os.environ.get("RADACCTD_DESK")
-    [key] = desk.keys_in(KEY, 1, lambda _: "CREDENTIALS_DIRECTORY" in os.environ)
-    return desk.Desk(desk.place(where) if where else desk.usual(), key)
+    """The book's desk, with the key, and the secret if there is one."""
+    where, is_handed = os.environ.get("RADACCTD_DESK"), "CREDENTIALS_DIRECTORY" in os.environ
+    [key] = desk.keys_in(KEY, 1, lambda _: is_handed)
+    secret = desk.secret_in(SECRET, lambda _: is_handed) if os.path.exists(SECRET) else b""
+    return desk.Desk(desk.place(where) if where else desk.usual(), key, secret.rstrip(b"\r\n"))
 
 
 def readers():

@@ -1,5 +1,6 @@
 """What tests of features share: a site in a folder, a book in memory, and a browser."""
 
+import collections
 import contextlib
 import io
 import json
@@ -10,7 +11,8 @@ import unittest
 import urllib.parse
 from unittest import mock
 
-from radacctd_site.core import desk, live, people, places, store, web
+from radacctd_site.core import (
+    accounts, corrections, desk, live, names, people, places, store, web)
 from radacctd_site.core.features import CASHIER, OPERATOR
 
 PASSWORD = "a-long-enough-one"
@@ -20,7 +22,29 @@ class Book:
     """Takes a number once, for one account and one sum, as the book does."""
 
     def __init__(self):
-        self.credits, self.is_away, self.asked = {}, False, []
+        self.credits, self.debits, self.is_away, self.asked, self.told = {}, {}, False, [], {}
+
+    def debit(self, account, total, number):
+        """Takes the same money once, and the greater sum of two."""
+        self.asked.append(number)
+        if self.is_away:
+            return desk.STRANGE
+        self.debits[number] = account, total
+        return desk.NEW
+
+    def corrects(self):
+        return corrections.has_plan()
+
+    def look(self, path):
+        return (200, self.told[path]) if path in self.told else (404, None)
+
+    def balances(self):
+        """What is left of each account."""
+        found = collections.Counter()
+        for sign, rows in ((1, self.credits), (-1, self.debits)):
+            for account, total in rows.values():
+                found[urllib.parse.unquote_to_bytes(account)] += sign * total
+        return found
 
     def credit(self, account, total, number):
         self.asked.append(number)
@@ -68,6 +92,13 @@ class Site(unittest.TestCase):
             json.dump({"url": "https://a.example", "name": "Hotel Łódź", "currency": "EUR",
                        "decimals": 2}, file)
         self.book = Book()
+        self.balances = os.path.join(self.folder, "balances.csv")
+        plans = os.path.join(self.folder, "plans.json")
+        with open(plans, "w", encoding="utf-8") as file:
+            json.dump({"debit": corrections.WANTED}, file)
+        for where, name, value in ((accounts, "BALANCES", self.balances),
+                                   (corrections, "PLANS", plans), (people, "COST", 2)):
+            self.enterContext(mock.patch.object(where, name, value))
         for name, value in (("DATABASE", os.path.join(self.folder, "site.db")),
                             ("FOLDER", self.folder), ("SETTINGS", settings),
                             ("book", lambda: self.book)):
@@ -76,6 +107,13 @@ class Site(unittest.TestCase):
             self.addCleanup(patch.stop)
         self.db = self.enterContext(store.opened())
         self.app = web.made()
+
+    def write_balances(self):
+        """As the book does every few seconds."""
+        with open(self.balances, "w", encoding="ascii") as file:
+            file.write("account,balance,overrun\n")
+            for account, balance in self.book.balances().items():
+                file.write(f"{names.shown(account)},{balance},{max(0, -balance)}\n")
 
     def browser(self, role=None, **more):
         """A browser of somebody who has logged in, or of nobody."""

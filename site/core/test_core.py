@@ -205,12 +205,12 @@ class Roles(Site):
         """The table of each feature is what is answered, and no page is in none."""
         browsers = {role: self.browser(role) for role in (CASHIER, OPERATOR)}
         browsers[features.NOBODY] = self.browser()
-        forged = self.browser()
-        forged.cookies = {web.COOKIE: "0" * 32}
+        forged, guest = self.browser(), self.browser()
+        forged.cookies, guest.cookies = {web.COOKIE: "0" * 32}, {"__Host-guest": "a-guest-key-00001"}
         for page in features.listed("PAGES"):
             path = re.sub("<[^>]+>", "x", page.path)
-            for role, browser in (*browsers.items(), ("forged", forged)):
-                role = features.NOBODY if role == "forged" else role
+            for role, browser in (*browsers.items(), (features.NOBODY, forged),
+                                  (features.NOBODY, guest)):
                 if page.path == "/logout/":
                     continue
                 with self.subTest(f"{page.method} {path} {role}"):
@@ -225,6 +225,23 @@ class Roles(Site):
                         self.assertNotIn("/login/?to", browser.header("Location"))
                     else:
                         self.assertEqual(found, 303 if role == features.NOBODY else 403)
+
+    def test_no_form_is_taken_that_another_site_made(self):
+        """With a token by chance, with that of another browser, and from another Origin."""
+        def token(browser, path):
+            browser.get(path)
+            return re.search(r'name="token" value="([0-9a-f]+)"', browser.text)[1]
+
+        foreign = token(self.browser(), "/login/")
+        for role in (None, CASHIER, OPERATOR):
+            browser = self.browser(role)
+            own = token(browser, "/password/" if role else "/login/")
+            forged = (("0" * 64, {}), (foreign, {}), (own, {"HTTP_ORIGIN": "https://evil.example"}))
+            for page in features.listed("PAGES"):
+                if page.method == "POST" and (role or features.NOBODY) in page.roles:
+                    for given, more in forged:
+                        found = browser.ask("POST", page.path, {"token": given}, **more)
+                        self.assertEqual((found, "This form is old" in browser.text), (403, True))
 
     def test_what_is_no_page(self):
         for path in ("/no-such", "/login", "/core/site.css", "/../site.db", "/vouchers/../x/y"):

@@ -67,8 +67,10 @@ def listed(service, name):
 
 
 def credited(server):
-    """The account and the sum of each code that the book has."""
+    """The account and the sum of each code that the book has. Who serves it has it alone."""
+    server.kill()
     rows = [it for it in csv.reader(server.export("topups")[1:]) if it[0].startswith("W-")]
+    server.start(1 << 62)
     return {row[0][2:]: (names.octets_of(row[1]).decode("utf-8", "replace"), int(row[2]))
             for row in rows}
 

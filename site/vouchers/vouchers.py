@@ -81,7 +81,7 @@ def named(db, what):
 
 def end(db, found, who):
     """Ends codes: from now on none of them is redeemed here. Returns what is to be sent."""
-    ended = [Act(number_of(it), NOBODY, 1, WITHDRAW, who) for it in sorted(found)]
+    ended = [Act(number_of(it), NOBODY, 1, WITHDRAW, who, 0) for it in sorted(found)]
     with db:
         db.executemany(
             "INSERT INTO code VALUES (?, 0, '', ?) ON CONFLICT (code) DO UPDATE "

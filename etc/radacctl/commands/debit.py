@@ -9,9 +9,9 @@ It sends the server an accounting Stop of SUM octets, of the session NUMBER and 
 from the address of the client `books`. The plan `debit` costs 1 for each octet. The server charges
 a session by its greatest total, so the same debit again takes nothing more.
 
-NUMBER is 1 to 32 of A-Z 0-9 and -, and belongs to one debit: the number of the voucher that is
-taken back, say, as the front desk's page does. By hand it is VOID- or REFUND- and that number: once
-the page took it back, neither is taken, and the reverse. SUM is 1 to 1000000000000. ACCOUNT is
+NUMBER is 1 to 32 of A-Z 0-9 and -, and belongs to one debit: VOID- or REFUND- and the number of the
+voucher that is taken back, say. A sale at the pages, whose number begins with S-, is taken back
+there. SUM is 1 to 1000000000000. ACCOUNT is
 written as in a CSV file of vouchers; before one that begins with - give --. It may be any account:
 one that could not log in is warned of.
 
@@ -46,6 +46,8 @@ from radacctl.doctor import look
 from radacctl.names import shown
 
 FILE_HEADER = ["account", "sum", "number"]
+# The number of a sale that a page or `radacctl sell` drew.
+OF_DESK = re.compile(r"(^|-)S(-[A-Z0-9]{5}){3}$")
 STOPPED = "stopped; give the same again: nothing is taken twice"
 HERE_AND_1813 = ("127.0.0.1", 1813)
 
@@ -154,6 +156,8 @@ def debit_of(account, total, number):
         raise ValueError("SUM is 1 to 1000000000000, in digits alone")
     if not desk.NUMBER.fullmatch(number):
         raise ValueError("NUMBER is 1 to 32 of A-Z 0-9 and -")
+    if OF_DESK.search(number):
+        raise ValueError(f"{number} is of a sale at the pages: it is taken back there, once")
     return octets, int(total), number
 
 

@@ -1,7 +1,7 @@
 """Reports what was used, charged and sold in a day or a month, from exports of radacctd.
 
     radacctl report [--folder EXPORTS] [--csv FOLDER] [--top N] [--debit-class CLASS]
-        [--settings FILE] [--sales LOG] day [YYYY-MM-DD] | month [YYYY-MM]
+        [--settings FILE] day [YYYY-MM-DD] | month [YYYY-MM]
 
 EXPORTS is /var/backups/radacctd/exports, where radacctd-nightly writes them: a folder for each
 date, with sessions.csv, balances.csv and topups.csv, which may be compressed by gzip. Each is the
@@ -19,9 +19,6 @@ Sums are in the site's money, as FILE says, /etc/radacctd-web/settings.json; wit
 are in whole units. Names are shown as they are. In a CSV file a name that a spreadsheet would take
 for a formula has an apostrophe before it.
 
-LOG is nginx' log of sales, /var/log/nginx/radacctd-sales.log, whose older parts are read, too. It
-says which cashier sold a voucher. Of guests' logins the journal of the front desk says it.
-
 Sessions of the Class CLASS, `debit` unless given, are money that radacctl debit took, and no usage.
 A line, into which `radacctd forward` carried sessions, is no session and no usage. The sessions are
 `carried`, and no money moved. Another session or voucher of the first export that is not in the
@@ -29,7 +26,8 @@ second is `gone`: its money is shown apart. N accounts are shown, 20 unless give
 most first.
 
 --csv writes usage.csv (by account and Class), plans.csv, vouchers.csv (by what stands before the
-first hyphen of the number), cashiers.csv and balances.csv into a folder that it makes.
+first hyphen of the number) and balances.csv into a folder that it makes. `radacctl sales` says who
+sold what.
 
 It ends with 0 if the balances moved by just what the sessions and vouchers say, with 1 if they
 did not, or the exports are too few or broken, and with 2 for a bad command line.
@@ -40,9 +38,7 @@ import datetime
 import os
 import sqlite3
 
-from radacctl import exports, money as moneys, names, program, sales_log, site, stock
-from radacctl.clerk import journal
-from radacctl.commands import guest
+from radacctl import exports, money as moneys, names, program, site
 
 SOLD = ["vouchers", "sum"]
 USAGE = ["account", "class", "sessions", "input", "output", "charged"]
@@ -55,23 +51,6 @@ class Money(int):
     """Units of the book, shown in the site's money; without settings as they are."""
 
     site = moneys.Money()
-
-
-def cashiers_of(path):
-    """The cashier of each voucher that nginx' logs of sales have."""
-    found = sales_log.by_number(it for it in sales_log.sales_of(path) if it.cashier)
-    return {number: it.cashier for number, it in found.items()}
-
-
-def cashiers_of_guests():
-    """The cashier of each guest's sale that the journal of the front desk has."""
-    try:
-        lines = journal.lines()
-    except stock.Fault as why:
-        program.say(why)
-        return {}
-    return {guest.number_of(it.account): sales_log.spelled(it.cashier)
-            for it in lines if it.act == "guest"}
 
 
 # What moved of each session of the last export; the sessions that it lacks, and the vouchers that
@@ -95,7 +74,6 @@ ROWS = {
     "usage": f"SELECT account, class, {SUMS} GROUP BY 1, 2 ORDER BY -total(input + output), 1, 2",
     "plans": f"SELECT class, {SUMS} GROUP BY 1",
     "vouchers": 'SELECT prefix_of(voucher), count(*), sum("sum") FROM sold GROUP BY 1',
-    "cashiers": 'SELECT cashier_of(voucher), count(*), sum("sum") FROM sold GROUP BY 1',
     "balances": """
         SELECT account, sum(iif(kind = 'before', moved, 0)), sum(iif(kind = 'sold', moved, 0)),
         sum(iif(kind = 'use', moved, 0)), sum(iif(kind = 'debit', moved, 0)),
@@ -125,11 +103,10 @@ class Sum:
 class Report:
     """What happened between two exports."""
 
-    def __init__(self, first, last, debit_class, cashiers):
+    def __init__(self, first, last, debit_class):
         self.first, self.last = first, last
         self.opened = exports.tables_of(first, last)
-        for name, function in (("is_debit", lambda it: it == debit_class), ("prefix_of", prefix_of),
-                               ("cashier_of", lambda it: cashiers.get(it, ""))):
+        for name, function in (("is_debit", lambda it: it == debit_class), ("prefix_of", prefix_of)):
             self.opened.create_function(name, 1, function)
         self.opened.create_aggregate("sum", 1, Sum)
         self.opened.executescript(VIEWS)
@@ -212,7 +189,7 @@ def in_money(title):
 def tables_of(report):
     """The header and the rows of each table, by its name, money as money."""
     headers = {"usage": USAGE, "plans": USAGE[1:], "vouchers": ["prefix", *SOLD],
-               "cashiers": ["cashier", *SOLD], "balances": BALANCES}
+               "balances": BALANCES}
     is_money = lambda name, it: isinstance(it, int) and name not in COUNTED
     return {name: (header, [[Money(it) if is_money(column, it) else it
                              for column, it in zip(header, row)] for row in report.tables[name]])
@@ -229,7 +206,6 @@ def show(report, tables, title, dates, top):
     print("sessions begun {:.0f}, ended {:.0f}; debits {:.0f}".format(*report.counts()))
     table(in_money("used (octets) and charged by Class"), *tables["plans"])
     table(in_money("vouchers sold by what their numbers begin with"), *tables["vouchers"])
-    table(in_money("vouchers sold by cashier, as the log of sales says"), *tables["cashiers"])
     rows, used = tables["balances"][1], tables["usage"][1]
     sums = [Money(sum(row[at] for row in rows)) for at in range(1, len(BALANCES))]
     table(in_money("money of all accounts"), BALANCES, [[f"all {len(rows)}", *sums]])
@@ -274,9 +250,8 @@ def period_of(parser, words):
 
 def parser():
     it = program.parser(
-        __doc__, "--folder FOLDER --csv FOLDER --top N --debit-class CLASS --settings FILE "
-        "--sales FILE", folder=f"{site.BACKUPS}/exports", top=20, debit_class="debit",
-        settings=moneys.SETTINGS, sales=sales_log.FILE)
+        __doc__, "--folder FOLDER --csv FOLDER --top N --debit-class CLASS --settings FILE",
+        folder=f"{site.BACKUPS}/exports", top=20, debit_class="debit", settings=moneys.SETTINGS)
     it.add_argument("what", choices=["day", "month"])
     program.add(it, "[date]")
     return it
@@ -288,10 +263,9 @@ def main(words):
     title, begin, end = period_of(it, words)
     Money.site = moneys.of_site(words.settings)
     first, last = exports.span_of(exports.snapshots_of(words.folder), begin, end)
-    cashiers = {**cashiers_of_guests(), **cashiers_of(words.sales)}
     # The disk of SQLite's temporary files may be full.
     with program.told(program.Failed, "no report can be made: ", sqlite3.OperationalError):
-        report = Report(first, last, words.debit_class, cashiers)
+        report = Report(first, last, words.debit_class)
         tables = tables_of(report)
         if words.csv:
             write_all(tables, words.csv)

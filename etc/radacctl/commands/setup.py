@@ -32,7 +32,6 @@ import os
 import shutil
 import sys
 
-from radacctd_site.core import features
 from radacctl import files, program, site
 from radacctl.commands import doctor
 from radacctl.doctor import copies
@@ -46,9 +45,7 @@ currency = "EUR"
 decimals = 2
 cashiers = ["anna", "ben"]
 # packages = true                   # codes that log in, and guests: PACKAGES has the rest
-# desk_guests = ["anna"]            # cashiers who may make guests at the page, and end them
-# desk_corrections = ["anna"]       # cashiers who may take sales back
-# operators = ["anna"]              # cashiers who have the page /operator/, too
+# operators = ["anna"]              # of these, who may do all at the pages
 # certificate = "/etc/letsencrypt/live/accounts.example.org/fullchain.pem"
 # certificate_key = "/etc/letsencrypt/live/accounts.example.org/privkey.pem"
 
@@ -92,21 +89,20 @@ def parser():
 
 def packages_of(wanted):
     parts = [(wanted.has_front, front.PACKAGES), (wanted.sql, sql.PACKAGES),
-             (wanted.host, web.PACKAGES + features.listed("PACKAGES")),
-             (wanted.has_packages, web.SHEETS),
-             (wanted.has_clerk, web.CLERK_PACKAGES)]
+             (wanted.host, web.PACKAGES), (wanted.has_packages, web.SHEETS)]
     return [*dict.fromkeys(it for is_wanted, found in parts if is_wanted for it in found)]
 
 
 def steps_of(wanted, config):
     """All steps but the packages and the proof."""
     yield from alone.of(wanted, config)
+    yield from web.store(config)
     if wanted.has_front:
         yield from front.of(wanted, config)
     if wanted.pair:
         yield from pair.after(wanted, config)
     if wanted.host:
-        yield from web.of(wanted, config)
+        yield from web.of(wanted)
     yield from devices.of(wanted, config)
 
 

@@ -9,7 +9,7 @@
 `save` writes an archive, for its owner alone, and reads it back before it has its name:
 configurations, keys and secrets, site.db, what was withdrawn, the journals of debits, the outbox of
 a pair, the settings of the pages, the folders of FreeRADIUS and nginx with the certificates that
-they name, units and defaults of radacctd, reports that FreeRADIUS has filed, and the log of sales.
+they name, units and defaults of radacctd, and reports that FreeRADIUS has filed.
 RADACCTD_ALSO names further files and folders. radacctd-nightly gives it.
 
 `test` reads an archive and compares each file with its digest. `packages` prints the packages that
@@ -59,7 +59,6 @@ PLACES = [
     "/var/lib/radacctd-pair",
     "/var/log/freeradius/radacct/radacctd-unsent",
     os.path.dirname(site.DUMP),
-    "/var/log/nginx/radacctd-sales.log*",
 ]
 # Of these the folders alone are copied: what waits in a queue is sent within seconds.
 EMPTY = site.RADACCT
@@ -71,12 +70,12 @@ LOCK = "/run/radacctd-site.lock"
 NAMING, LARGEST_NAMING = [site.RADDB, "/etc/nginx"], 1 << 20
 NAMED = re.compile(r"/etc/(?:ssl|letsencrypt)/[A-Za-z0-9._/-]+")
 NOT_NAMED = "/etc/ssl/certs/ca-certificates.crt"
-PACKAGES = ["freeradius*", "libfreeradius*", "nginx*", "libnginx*", "fcgiwrap", "jq"]
+PACKAGES = ["freeradius*", "libfreeradius*", "nginx*", "libnginx*"]
 PACKAGES += ["fonts-dejavu-core", "python3-reportlab", *features.listed("PACKAGES")]
-PACKAGES += ["qrencode", "apache2-utils", "rsync", "ssl-cert"]
+PACKAGES += ["qrencode", "rsync", "ssl-cert"]
 UNITS = ["radacctd*", "freeradius.service", "nginx.service"]
 # What their packages enable, and a site may not.
-OTHERS = ["freeradius.service", "nginx.service", "fcgiwrap.service", "fcgiwrap.socket"]
+OTHERS = ["freeradius.service", "nginx.service"]
 
 
 def places():

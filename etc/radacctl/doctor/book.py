@@ -6,8 +6,9 @@ import re
 import time
 import tomllib
 
+from radacctd_site.core import places
 from radacctl import desk, files, names, plans, site
-from radacctl.doctor import copies, look, machine
+from radacctl.doctor import copies, look
 from radacctl.doctor.faults import Fault
 
 # Limits of a configuration, and how many are to be free.
@@ -32,8 +33,6 @@ SECRETS = {
     "/etc/radacctd-cashier.key": (0o600, ("root",), None),
     site.BOOKS_SECRET: (0o600, ("root",), None),
     site.SITE_KEY: (0o600, ("root",), None),
-    "/etc/nginx/radacctd/cashier.conf": (0o600, ("root",), None),
-    "/etc/nginx/radacctd/cashiers": (0o640, ("root",), None),
     site.STATE: (0o700, (site.USER,), None),
     site.BACKUPS: (0o700, ("root",), None),
 }
@@ -203,7 +202,7 @@ def mode(path, most, owners, groups_allowed):
 
 
 def groups(kind):
-    wanted = [(kind.has_front, site.RADIUS_USER), (kind.has_pages, site.WEB_USER)]
+    wanted = [(kind.has_front, site.RADIUS_USER), (kind.has_site, places.USER)]
     for is_needed, user in wanted:
         # There may be no such user.
         status, said = look.run("id", "-Gn", user) if is_needed else (1, "")
@@ -216,16 +215,12 @@ def groups(kind):
         if site.READERS not in found:
             yield Fault("group-wrong", f"{user} is not in the group {site.READERS}",
                         f"gpasswd -a {user} {site.READERS}, and restart its service")
-        elif user == site.WEB_USER and machine.lacks_group("nginx.service", user, site.READERS):
-            yield Fault("group-wrong", f"nginx runs without the group {site.READERS}, which "
-                        f"{user} has got since", "systemctl restart nginx")
 
 
 # The files of cashiers' keys: of each, what finds the keys in it.
 KEY_FILES = {
     desk.CASHIER_KEY: r"(?m)^\s*(\S+)\s*$",
     site.SITE_KEY: r"(?m)^\s*(\S+)\s*$",
-    "/etc/nginx/radacctd/cashier.conf": r'(?m)^\s*proxy_set_header\s+Desk-Key\s+"([^"]*)"',
 }
 
 

@@ -6,7 +6,6 @@ from radacctl import site
 from radacctl.doctor import look
 
 NGINX = "/etc/nginx/conf.d/radacctd.conf"
-CLERK = "/etc/systemd/system/sockets.target.wants/radacctd-clerk.socket"
 
 
 # What a site may have: the words for it, the units that are to run and start with the machine, and
@@ -16,13 +15,10 @@ PARTS = [
      "radacctd-front.service radacctd-clock.timer",
      (f"{site.RADDB}/radacctd", f"{site.RADDB}/sites-enabled/radacctd",
       "/etc/systemd/system/radacctd-mirror.service")),
-    ("has_pages", "with pages", "nginx.service", (NGINX, "/etc/nginx/radacctd/cashier.conf")),
-    ("has_site", "", "radacctd-site.socket radacctd-minute.timer",
-     (site.SITE_KEY, "/var/lib/radacctd-site")),
+    ("has_pages", "with pages", "nginx.service radacctd-site.socket", (NGINX,)),
+    ("has_site", "", "radacctd-minute.timer", (site.SITE_KEY, "/var/lib/radacctd-site")),
     ("has_packages", "with packages", "radacctd-packages.timer",
      (f"{site.RADDB}/mods-enabled/radacctd-packages", f"{site.RADDB}/radacctd/packages.conf")),
-    ("has_clerk", "", "radacctd-clerk.socket radacctd-clerk-work.socket",
-     ("/etc/radacctd-clerk/rights.toml", CLERK)),
     ("has_pair", "one of a pair", "radacctd-outbox.service radacctd-state.socket "
      "radacctd-compare.timer", (site.PAIR, f"{site.RADDB}/radacctd/pair.conf")),
 ]

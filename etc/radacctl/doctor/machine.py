@@ -103,14 +103,6 @@ def begin_of(unit):
     return time.time() - ran
 
 
-def lacks_group(unit, user, group):
-    """Whether a unit has a process of a user without a group that the user has got since."""
-    main = look.properties(unit, "MainPID").get("MainPID", "0")
-    said = look.run("ps", "-p", main, "--ppid", main, "-o", "euser:32=,supgrp=")[1]
-    found = [re.split(r"[\s,]+", it) for it in said.splitlines()]
-    return any(it[0] == user and group not in it for it in found)
-
-
 def clock(kind):
     now = time.time()
     if now < YEAR_2026:

@@ -138,8 +138,8 @@ TOP = {
     "certificate_key": ("", text("a path from the root", f"({PATH})?")),
     "currency": ("", PRINTABLE), "decimals": (2, number(0, MOST_DECIMALS)),
     "cashiers": ([], CASHIERS),
-    "class": ("", PRINTABLE), "packages": (False, FLAG), "desk_guests": ([], CASHIERS),
-    "desk_corrections": ([], CASHIERS), "operators": ([], CASHIERS), "left_out": ([], NAMES),
+    "class": ("", PRINTABLE), "packages": (False, FLAG), "operators": ([], CASHIERS),
+    "left_out": ([], NAMES),
     "realms": ([], NAMES), "virtual_servers": ([], NAMES),
     "plan": (None, LIST), "access_server": ([], LIST), "pair": ({}, TABLE), "secrets": ({}, TABLE),
     "sql": ({}, TABLE),
@@ -165,9 +165,7 @@ SQL = {"server": ("localhost", OF_SQL), "port": (5432, number(1, 65535)),
 NEEDS = [(it, "freeradius") for it in ("packages", "pair", "sql", "left_out", "realms",
                                        "virtual_servers")]
 NEEDS += [("cashiers", "host"), ("host", "name"), ("host", "currency"),
-          ("certificate", "certificate_key"), ("certificate_key", "certificate"),
-          ("desk_guests", "packages"), ("operators", "packages")]
-CLERKS = {"desk_guests": "guests", "desk_corrections": "corrections", "operators": "operators"}
+          ("certificate", "certificate_key"), ("certificate_key", "certificate")]
 
 
 def table(found, rules, name="", index=0):
@@ -205,8 +203,6 @@ class Answers:
         self.plans = tables(it["plan"], PLAN, "plan")
         self.access_servers = tables(it["access_server"], ACCESS_SERVER, "access_server")
         self.has_front, self.has_packages = it["freeradius"], it["packages"]
-        self.clerks = {right: it[name] for name, right in CLERKS.items()}
-        self.has_clerk = any(self.clerks.values())
         classes = [each["class"] for each in self.plans]
         self.usual_class = it["class"] or next(iter(classes), "")
         need("default" in classes, "each site has a plan `default`: write a [[plan]] of it")
@@ -217,7 +213,7 @@ class Answers:
         self.test_needs(it)
         self.test_addresses()
         self.test_secrets()
-        self.test_pair_and_clerks(it)
+        self.test_pair_and_operators(it)
 
     def test_once(self, found, name, many, key):
         for number, it in enumerate(found):
@@ -256,14 +252,14 @@ class Answers:
             need(isinstance(value, str) and re.fullmatch(form, value),
                  f"secrets: {name} is no secret of a set-up", name, "secrets")
 
-    def test_pair_and_clerks(self, it):
+    def test_pair_and_operators(self, it):
         both = [self.pair[name] for name in ("own", "other")] if self.pair else ["own", "other"]
         need(both[0] != both[1], "[pair]: both machines have one address", "other", "pair")
         need(":" not in "".join(both), "[pair]: own and other are addresses of IPv4", "own", "pair")
-        for name in ("packages", *CLERKS):
-            need(not (self.pair and it[name]), f"`{name}` is not for a pair of machines", name)
-        for name, each in ((name, each) for name in CLERKS for each in it[name]):
-            need(each in self.cashiers, f"{name}: {each!r} is none of `cashiers`", name)
+        need(not (self.pair and it["packages"]), "`packages` is not for a pair of machines",
+             "packages")
+        for each in self.operators:
+            need(each in self.cashiers, f"operators: {each!r} is none of `cashiers`", "operators")
 
 
 def read(path):

@@ -129,10 +129,3 @@ def members(row):
 def shown(value):
     """A value as TOML has it: texts, numbers, truths, lists and no table."""
     return json.dumps(value, ensure_ascii=False)
-
-
-def desks(answers):
-    """The file for nginx that sells by the outbox, and asks either machine."""
-    text = files.sample("pair", "desks-outbox.conf")
-    text = text.replace("10.0.0.5", "OWN").replace("10.0.0.6", answers.pair["other"])
-    return text.replace("OWN", answers.pair["own"])

@@ -9,8 +9,8 @@ import os
 import secrets
 import time
 
-from radacctl import desk, files, freeradius, names, site
-from radacctl.doctor import kind, look
+from radacctl import files, freeradius, names, site
+from radacctl.doctor import look
 from radacctl.setup import alone, front, steps
 
 ACCOUNT = front.TEST_USER
@@ -82,8 +82,7 @@ class Proof:
             "radacctl doctor"))
 
     def sell(self, total):
-        host, port = desk.OUTBOX if self.answers.pair else kind.Book().desk()
-        words = (TOOL, "sell", "--host", host, "--port", str(port), "--give-up", "5")
+        words = (TOOL, "sell", "--unpaid")
         text = f"voucher,account,sum\n{number()},{ACCOUNT},{total}\n"
         sold = lambda: look.run(*words, text=text)
         # The server reads a key that was just written within 5 seconds.

@@ -1,0 +1,65 @@
+"""What the book says of its accounts: the balances that it writes, and what its desk tells a cashier.
+
+radacctd writes the file of balances every few seconds. A desk that tells cashiers of no account
+answers 404: then nobody knows its sessions here.
+"""
+
+import csv
+import difflib
+import io
+import os
+import unicodedata
+import urllib.parse
+
+from radacctd_site.core import Failed, names
+
+BALANCES = os.environ.get("RADACCTD_BALANCES", "/var/lib/radacctd-balances/balances.csv")
+HEADER = ["account", "balance", "overrun"]
+SESSIONS, TOPUPS = "sessions", "topups"
+# How many names are shown of those that are like another one, and among how many they are sought.
+LIKE, SOUGHT = 20, 5000
+
+
+def balances():
+    """The balance of each account, and when the book wrote them."""
+    try:
+        with open(BALANCES, encoding="ascii", newline="") as file:
+            moment = int(os.fstat(file.fileno()).st_mtime)
+            header, *rows = list(csv.reader(io.StringIO(file.read()))) or [[]]
+        if header != HEADER:
+            raise ValueError("it has no balances")
+        return {names.octets_of(account): int(balance) for account, balance, _ in rows}, moment
+    except (OSError, ValueError, csv.Error) as why:
+        raise Failed(f"{BALANCES}: {getattr(why, 'strerror', None) or why}") from None
+
+
+def known():
+    """The same; no account and no moment if the book has written none, or is not to be read."""
+    try:
+        return balances()
+    except Failed:
+        return {}, None
+
+
+def told(book, account, question):
+    """What the book's desk tells of an account's octets: a list, or None if it tells nothing."""
+    path = f"/accounts/{urllib.parse.quote(account, safe='')}/{question}"
+    status, found = book.look(path)
+    return found[question] if status == 200 else None
+
+
+def folded(text):
+    """A text as people look for it: without case, and without marks above letters."""
+    parts = unicodedata.normalize("NFKD", text)
+    return "".join(it for it in parts if not unicodedata.combining(it)).casefold()
+
+
+def like(text, accounts):
+    """The names of accounts that have a text in them, or are nearly it; in their order."""
+    wanted = folded(text)
+    found = {it: folded(it) for it in map(names.readable, map(names.shown, accounts))}
+    near = {it for it, name in found.items() if wanted in name}
+    if len(found) <= SOUGHT:
+        near |= {it for it, name in found.items()
+                 if name in difflib.get_close_matches(wanted, [name], 1, 0.8)}
+    return sorted(near)[:LIKE]

@@ -1,0 +1,79 @@
+"""Takes money from an account: a report (RFC 2866) of the client `books`, by the plan `debit`.
+
+The plan costs 1 for each octet, and the report has as many octets as are to be taken. Its session is
+the number of what is taken back: so the same report again takes nothing more.
+"""
+
+import contextlib
+import hashlib
+import hmac
+import json
+import os
+import re
+import socket
+import time
+
+CLIENT, CLASS, SOURCE = "books", "debit", "127.0.0.9"
+PLANS = os.environ.get("RADACCTD_PLANS", "/var/lib/radacctd-balances/plans.json")
+WANTED = {"block": 1, "unit": 1, "count": "both"}
+DEFAULTS = os.environ.get("RADACCTD_DEFAULTS", "/etc/default/radacctd")
+USUAL, PAIR = ("127.0.0.1", 1813), "/etc/default/radacctd-pair"
+# How often a report is sent, and how long an answer is waited for each time, in seconds.
+TRIES, PATIENCE = 2, 3
+
+
+def where():
+    """Where radacctd hears reports. Of a pair it is FreeRADIUS, which gives them to both books."""
+    text = ""
+    if not os.path.exists(PAIR):
+        with contextlib.suppress(OSError), open(DEFAULTS, encoding="utf-8") as file:
+            text = file.read()
+    values = dict(re.findall(r'(?m)^(RADACCTD_\w+)="?([^"\n]*)', text))
+    binds = re.findall(r"--bind[ =](\S+)", values.get("RADACCTD_BIND", ""))
+    host = binds[0] if binds and not {USUAL[0], "0.0.0.0"} & set(binds) else USUAL[0]
+    return host, int(values.get("RADACCTD_RADIUS_PORT", "") or USUAL[1])
+
+
+def has_plan():
+    """Whether the book has the plan: another one would price the report otherwise, for ever."""
+    try:
+        with open(PLANS, encoding="utf-8") as file:
+            return json.load(file).get(CLASS) == WANTED
+    except (OSError, ValueError, AttributeError):
+        return False
+
+
+def request(number, account, total, secret):
+    """The signed report: a Stop of so many octets from the account."""
+    gigawords, octets = (it.to_bytes(4, "big") for it in divmod(total, 1 << 32))
+    values = {40: (2).to_bytes(4, "big"), 44: number.encode(), 1: account, 25: CLASS.encode(),
+              42: octets, 52: gigawords}
+    attributes = b"".join(bytes([kind, len(it) + 2]) + it for kind, it in values.items())
+    head = bytes([4, os.urandom(1)[0]]) + (20 + len(attributes)).to_bytes(2, "big")
+    return head + hashlib.md5(head + bytes(16) + attributes + secret).digest() + attributes
+
+
+def is_reply(reply, sent, secret):
+    """Whether this is the signed answer to the report that was sent."""
+    if len(reply) < 20 or reply[:2] != bytes([5, sent[1]]):
+        return False
+    reply = reply[: int.from_bytes(reply[2:4], "big")]
+    digest = hashlib.md5(reply[:4] + sent[4:20] + reply[20:] + secret).digest()
+    return hmac.compare_digest(reply[4:20], digest)
+
+
+def take(place, secret, account, total, number):
+    """Whether the book has answered that it took a sum from an account's octets."""
+    sent = request(number, account, total, secret)
+    with contextlib.suppress(OSError), socket.socket(socket.AF_INET, socket.SOCK_DGRAM) as sender:
+        sender.bind((SOURCE, 0))
+        sender.connect(place)
+        for _ in range(TRIES):
+            sender.send(sent)
+            end = time.monotonic() + PATIENCE
+            while (left := end - time.monotonic()) > 0:
+                sender.settimeout(left)
+                with contextlib.suppress(TimeoutError):
+                    if is_reply(sender.recv(4096), sent, secret):
+                        return True
+    return False

@@ -1,0 +1,330 @@
+#!/usr/bin/python3
+"""The front desk over the built program: cashiers at once, kills, a full disk, an older book.
+
+Cashiers sell at the pages' service, which gunicorn runs, at the desk of a book that RADACCTD serves.
+They take sales back, and use numbers of each other, while the service and the book are killed KILLS
+times (200) at random moments. At last the exports of the book have each sale that a page called
+sold, each correction that it called done, nothing twice, and nothing that site.db does not have. Then
+`radacctl sell` is killed at each step that writes, and finds a full disk; site.db is full; an older
+book is put back.
+
+    RADACCTD=.../radacctd site/desk/live.py [KILLS]
+
+RADACCTD_SEED chooses the moments. It needs Debian's gunicorn, python3-bottle, python3-jinja2,
+python3-segno and strace. It ends with 0 if all is as it should be, else with 1.
+"""
+
+import collections
+import contextlib
+import csv
+import os
+import random
+import re
+import shutil
+import sqlite3
+import subprocess
+import sys
+import tempfile
+import threading
+import time
+
+sys.dont_write_bytecode = True
+ROOT = os.path.dirname(os.path.dirname(os.path.dirname(os.path.realpath(__file__))))
+sys.path[:0] = [os.path.join(ROOT, it) for it in ("interop", "etc")]
+
+import radacctl  # it finds the kit
+import served
+from radacctd_site.core import codes, corrections, live, names
+from radacctd_site.core.live import Service
+from served import CASHIER, PLANS, check
+
+ACCOUNTS, PASSWORD = ("alice", "bob", "müller", "room 12"), "a-long-enough-one"
+MORE = f"""
+[[client]]
+name = "{corrections.CLIENT}"
+address = "{corrections.SOURCE}"
+secret = "{live.SECRET}"
+"""
+DEBIT = f'\n[[plan]]\nclass = "{corrections.CLASS}"\nblock = 1\nunit = 1\n'
+
+
+class Server(served.Server):
+    """The program with what a correction needs; it writes balances and plans into its folder."""
+
+    def __init__(self, folder):
+        super().__init__(folder, PLANS + DEBIT)
+        self.folder = folder
+        with open(self.config, "a", encoding="utf-8") as file:
+            file.write(MORE)
+
+    def start(self, *more):
+        words = [os.path.join(ROOT, "etc", "plans-in-force"), self.book, self.folder]
+        subprocess.run(words, check=True)
+        super().start(1 << 62, ["--balances", f"{self.folder}/balances.csv",
+                                "--balances-every", "1"])
+
+    def sold(self):
+        """The account and the sum of each number that the book has."""
+        return {row[0]: (names.octets_of(row[1]).decode(), int(row[2]))
+                for row in csv.reader(self.export("topups")[1:])}
+
+    def taken(self):
+        """The same of what was taken back; no number may be there twice."""
+        rows = [it for it in csv.DictReader(self.export("sessions"))
+                if it["client"] == corrections.CLIENT]
+        check("no correction is there twice", len({it["session"] for it in rows}), len(rows))
+        return {it["session"]: (names.octets_of(it["account"]).decode(), int(it["charged"]))
+                for it in rows}
+
+
+def cashier(service, name):
+    """A browser of a cashier who has logged in."""
+    service.run("person", "put", name, stdin=None, input=f"{PASSWORD}\n")
+    found = service.browser()
+    found.name = name
+    found.post("/login/", name=name, password=PASSWORD)
+    return found
+
+
+def sell(browser, account, number=None, total="5.00"):
+    """Sells by the page, with a number that it drew, or another one: the number."""
+    browser.post("/desk/", account=account, sum=total)
+    drawn = re.search(r'name="number" value="([^"]+)"', browser.text)
+    number = number or (drawn and drawn[1])
+    if number and browser.post("/desk/", account=account, sum=total, number=number,
+                               sure="yes") == 303:
+        browser.get(browser.header("Location"))
+    return number
+
+
+def by_page(server, service):
+    """One act at a time, also while the book is away."""
+    anna, bert = cashier(service, "anna"), cashier(service, "bert")
+    number = sell(anna, "alice")
+    check("a sale", "Sold: alice has" in anna.text, True)
+    sell(bert, "bob", number)
+    check("another's number sells nothing", "Nothing was sold" in bert.text, True)
+    sell(anna, "alice", number)
+    server.kill()
+    check("the book has it once", server.sold(), {number: ("alice", 500)})
+    other = sell(anna, "bob")
+    check("while the book is away the page says so", "Not sold yet" in anna.text, True)
+    check("and takes nothing back", anna.post("/desk/back/", "/desk/", number=number, sure="yes"),
+          503)
+    server.start()
+    check("the minute sends it again", service.run("minute"), (0, "answered now: 1\n"))
+    anna.get(f"/desk/sale/{other}")
+    check("then it is sold", "Sold: bob has" in anna.text, True)
+    for status in (303, 409):
+        check("a sale is taken back once",
+              anna.post("/desk/back/", "/desk/", number=number, sure="yes"), status)
+    for _ in range(150):
+        balance = service.run("balance", "bob")[1].split("  ")[0]
+        if balance == "5.00 EUR":
+            break
+        time.sleep(0.1)
+    check("the balance of an account", balance, "5.00 EUR")
+    check("an account is found", (anna.get("/desk/find/?account=alice"), "0.00" in anna.text),
+          (200, True))
+    check("the ledger", service.run("sales")[1].count("net 5.00 EUR"), 1)
+    anna.post("/desk/shift/", sure="yes")
+    check("a shift ends", "The shift has ended" in anna.text, True)
+    server.kill()
+    check("the book has one correction", server.taken(), {number: ("alice", 500)})
+    server.start()
+
+
+class Chaos:
+    """Cashiers at once, while the service and the book are killed."""
+
+    def __init__(self, server, service, kills, seed):
+        self.server, self.service, self.kills = server, service, kills
+        self.pick, self.end, self.lock = random.Random(seed), False, threading.Lock()
+        self.numbers, self.sold, self.back = [], set(), set()
+        self.counts = collections.Counter()
+
+    def cashier(self, name):
+        pick, browser = random.Random(name), None
+        while not self.end:
+            try:
+                browser = browser or cashier(self.service, name)
+                self.act(pick, browser)
+            except OSError:
+                self.counts["no answer"] += 1
+                time.sleep(0.05)
+
+    def act(self, pick, browser):
+        """Sells, at times by a number of somebody else, and takes some of it back."""
+        account = pick.choice(ACCOUNTS)
+        with self.lock:
+            number = pick.choice(self.numbers) if self.numbers and pick.random() < 0.2 else None
+        number = sell(browser, account, number)
+        if not number:
+            return
+        is_sold = f"Sold: {account} has" in browser.text
+        with self.lock:
+            self.numbers.append(number)
+            self.counts["sold" if is_sold else "else"] += 1
+            if is_sold:
+                self.sold.add((number, account))
+        if is_sold and pick.random() < 0.4:
+            browser.post("/desk/back/", f"/desk/sale/{number}", number=number, sure="yes")
+            browser.get(f"/desk/sale/{number}")
+            if f"Taken back by {browser.name}" in browser.text:
+                with self.lock:
+                    self.back.add((number, account))
+
+    def disturb(self):
+        """Kills the service, or a book, and starts it again."""
+        time.sleep(self.pick.uniform(0, 0.5))
+        it = self.server if self.pick.random() < 0.3 else self.service
+        it.kill()
+        time.sleep(self.pick.uniform(0, 0.1))
+        it.start()
+
+    def run(self):
+        threads = [threading.Thread(target=self.cashier, args=(f"c{at}",)) for at in range(4)]
+        for it in threads:
+            it.start()
+        failures = served.failures
+        with open(os.devnull, "w", encoding="ascii") as quiet, contextlib.redirect_stdout(quiet):
+            for _ in range(self.kills):
+                self.disturb()
+        self.end = True
+        for it in threads:
+            it.join()
+        check("each start of the book was well", served.failures, failures)
+
+    def judge(self):
+        """What the book has at last."""
+        while self.service.run("minute")[1]:
+            pass
+        self.server.kill()
+        sold, taken = self.server.sold(), self.server.taken()
+        self.server.start()
+        lost = [it for it in self.sold if sold.get(it[0]) != (it[1], 500)]
+        check(f"{len(self.sold)} were called sold: the book has each", lost, [])
+        lost = [it for it in self.back if taken.get(it[0]) != (it[1], 500)]
+        check(f"{len(self.back)} were called taken back: the book has each", lost, [])
+        wrong = [it for it, found in taken.items() if sold.get(it) != found]
+        check("nothing is taken back that is not sold", wrong, [])
+        with contextlib.closing(sqlite3.connect(f"{self.service.folder}/site/site.db")) as db:
+            rows = {(number, names.octets_of(account).decode(), total) for number, account, total in
+                    db.execute("SELECT number, account, sum FROM act WHERE answer <> 'differs'")}
+        found = {(it, *of) for it, of in sold.items()}
+        found |= {(it, who, -total) for it, (who, total) in taken.items()}
+        check("site.db has what the book has, and nothing else", rows ^ found, set())
+        print(f"          {dict(self.counts)}; {len(sold)} sold, {len(taken)} taken back")
+
+
+def stepped(server, service):
+    """`radacctl sell` is killed before each call that writes, or finds a full disk there."""
+    path, wrong, kills = f"{service.folder}/vouchers.csv", [], 0
+    for what in ("signal=SIGKILL", "error=ENOSPC"):
+        for call in ("fdatasync", "pwrite64", "sendto"):
+            for when in range(1, 30):
+                number = f"F-{codes.letters(12).upper()}"
+                with open(path, "w", encoding="ascii") as file:
+                    file.write(f"voucher,account,sum\n{number},alice,5\n")
+                words = ["strace", "-f", "-qq", "-o", os.devnull, "-e", f"trace={call}", "-e",
+                         f"inject={call}:{what}:when={when}", *service.words("sell")]
+                with open(path, encoding="ascii") as file:
+                    status = subprocess.run(words, env=service.env, stdin=file,
+                                            capture_output=True).returncode
+                    kills += status != 0
+                    file.seek(0)
+                    said = service.run("sell", stdin=file)
+                if said[0]:
+                    wrong.append((what, call, when, said))
+                if status == 0:
+                    break
+    check("stopped as it sells: the next run does it, once", wrong, [])
+    server.kill()
+    counts = collections.Counter(it for it in server.sold() if it[:2] == "F-")
+    server.start()
+    check("it was stopped some times, and each is there once",
+          (kills > 10, set(counts.values())), (True, {1}))
+
+
+def full_disk(server, folder):
+    """site.db on a disk that is full: nothing is sold, and nothing sent."""
+    place = os.path.join(folder, "full")
+    os.mkdir(place)
+    if subprocess.run(["mount", "-t", "tmpfs", "-o", "size=1m", "tmpfs", place]).returncode:
+        return print("left out: a full disk, since nothing can be mounted here")
+    service = Service(place, server.desk, CASHIER)
+    service.of_book(server.folder, server.radius)
+    try:
+        service.start()
+        browser = cashier(service, "anna")
+        browser.post("/desk/", account="carl", sum="5.00")
+        number = re.search(r'name="number" value="([^"]+)"', browser.text)[1]
+        with contextlib.suppress(OSError), open(f"{place}/fill", "wb", buffering=0) as file:
+            while file.write(bytes(4096)):
+                pass
+        fields = {"account": "carl", "sum": "5.00", "number": number, "sure": "yes"}
+        check("on a full disk nothing is sold", browser.post("/desk/", **fields), 503)
+        check("and the page says so", "Nothing was sold, and nothing was sent" in browser.text, True)
+        os.remove(f"{place}/fill")
+        server.kill()
+        check("the book has nothing of it", number in server.sold(), False)
+        server.start()
+        check("with space again it is sold", browser.post("/desk/", **fields), 303)
+    finally:
+        service.kill()
+        subprocess.run(["umount", "-l", place], check=True)
+
+
+def older(server, service):
+    """An older book is put back: what it lacks is sent again."""
+    server.kill()
+    files = [it for it in os.listdir(server.folder) if it.startswith("book")]
+    for it in files:
+        shutil.copy(f"{server.folder}/{it}", f"{service.folder}/{it}.older")
+    server.start()
+    browser = cashier(service, "anna")
+    numbers = [sell(browser, it) for it in ACCOUNTS]
+    browser.post("/desk/back/", "/desk/", number=numbers[0], sure="yes")
+    server.kill()
+    before = server.export("balances")
+    for it in os.listdir(server.folder):
+        if it.startswith("book"):
+            os.remove(f"{server.folder}/{it}")
+    for it in files:
+        shutil.copy(f"{service.folder}/{it}.older", f"{server.folder}/{it}")
+    check("an older book lacks something", server.export("balances") != before, True)
+    server.start()
+    check("all is sent again", service.run("sell", "--again", "2020-01-01")[0], 0)
+    server.kill()
+    check("and the book is as before", server.export("balances"), before)
+    server.start()
+
+
+def main():
+    kills = int(sys.argv[1]) if sys.argv[1:] else 200
+    seed = int(os.environ.get("RADACCTD_SEED", "82"))
+    with tempfile.TemporaryDirectory() as folder:
+        os.mkdir(f"{folder}/book")
+        server = Server(f"{folder}/book")
+        server.init()
+        server.start()
+        service = Service(f"{folder}/site", server.desk, CASHIER)
+        service.of_book(server.folder, server.radius)
+        try:
+            service.start()
+            by_page(server, service)
+            chaos = Chaos(server, service, kills, seed)
+            chaos.run()
+            chaos.judge()
+            stepped(server, service)
+            older(server, service)
+            full_disk(server, folder)
+        finally:
+            service.kill()
+            server.kill()
+    print("failed:", served.failures)
+    return 1 if served.failures else 0
+
+
+if __name__ == "__main__":
+    sys.exit(main())

@@ -1,0 +1,117 @@
+"""Sells to an account in the site's money, or credits the file of vouchers on standard input.
+
+Such a file has the header voucher,account,sum, as `radacctd import` reads it: sums in whole units of
+the book. What has no answer is sent again each minute, and giving it again credits nothing twice.
+
+The status is 0 if all was sold, now or before, 1 if something was refused, and 3 if the book did not
+answer yet.
+"""
+
+import collections
+import datetime
+import sys
+
+from radacctd_site.core import Failed, acts, desk, money, names, places, store
+from radacctd_site.core.acts import Act
+from radacctd_site.desk import sales
+
+COLUMNS, FILE = ["voucher", "account", "sum"], "/dev/stdin"
+
+
+class Waiting(Failed):
+    """What the book has not answered yet."""
+
+    status = 3
+
+
+def arguments(it):
+    it.add_argument("account", nargs="?", help="who gets it")
+    it.add_argument("sum", nargs="?", help="how much, in the site's money, as 5.00")
+    it.add_argument("--again", metavar="DAY", help="send again what was sold since a day, to a book "
+                    "that was put back from a copy, as 2026-12-31")
+    it.add_argument("--unpaid", action="store_true", help="nothing was paid: it counts in no total")
+
+
+def account_of(text):
+    octets = names.octets_of(text)
+    if why := names.why_not(octets):
+        raise ValueError(f"the account `{names.shown(octets)}` is not taken: {why}")
+    return names.for_desk(octets)
+
+
+def record(cells):
+    total = money.sum_of(cells["sum"])
+    if not desk.NUMBER.fullmatch(cells["voucher"]) or total is None:
+        raise ValueError("a voucher is 1 to 32 of A-Z 0-9 and -, a sum is 1 to 1000000000000")
+    return Act(cells["voucher"], account_of(cells["account"]), total, sales.SALE, sales.COMMAND)
+
+
+def asked(words):
+    """The acts of a command line."""
+    if words.account is None and not sys.stdin.isatty():
+        return names.records_in(FILE, COLUMNS, record)
+    site = money.of_site(places.SETTINGS)
+    total = site.units(words.sum or "")
+    if words.account is None or total is None:
+        raise Failed(f"give ACCOUNT and SUM, as {site.plain(500)}, or a file: radacctl sell < FILE")
+    try:
+        account = account_of(words.account)
+    except ValueError as why:
+        raise Failed(str(why)) from None
+    return [Act(sales.new_number(), account, total, sales.SALE, sales.COMMAND)]
+
+
+def sell(db, book, found):
+    """Writes all, and then sends each."""
+    with db:
+        acts.begin(db, found)
+    refused, counts = [], collections.Counter()
+    for it in found:
+        said = acts.send(db, book, it)
+        counts[said] += 1
+        if said in (desk.DIFFERS, desk.LIMIT):
+            refused.append(f"{it.number}: {said}")
+        if said in (desk.AWAY, desk.NO_KEY):
+            break
+    print(f"added {counts[desk.NEW]}, repeated {counts[desk.REPEAT]}, refused {len(refused)}")
+    rest = len(found) - len(refused) - counts[desk.NEW] - counts[desk.REPEAT]
+    if rest:
+        why = ": it does not take the key" if counts[desk.NO_KEY] else ""
+        raise Waiting(f"the book has not answered{why}: {rest} are sent again each minute")
+    if refused:
+        raise Failed("\n".join(["refused:", *refused]))
+
+
+def again(db, book, day):
+    """Sends again what the book had, for one that is an older copy."""
+    rows = db.execute("SELECT * FROM act WHERE begun >= ? AND answer IN ('new', 'repeat') "
+                      "ORDER BY begun, rowid", (acts.second_of(day),)).fetchall()
+    counts = collections.Counter()
+    for it in rows:
+        said = acts.ask(book, Act(*(it[name] for name in Act._fields)))
+        counts[said] += 1
+        if said not in acts.FINAL:
+            raise Waiting(f"the book did not answer to {it['number']}: give the same again")
+    print(f"{len(rows)} were sent: {counts[desk.REPEAT]} were there, "
+          f"{counts[desk.DIFFERS] + counts[desk.LIMIT]} are refused")
+
+
+def day_of(text):
+    try:
+        return datetime.date.fromisoformat(text)
+    except ValueError:
+        raise Failed(f"a day is as 2026-12-31, not {text}") from None
+
+
+def main(words):
+    # All of it is read as whoever gave the command.
+    book, day = places.book(), day_of(words.again) if words.again else None
+    found = [] if day else asked(words)
+    if words.unpaid:
+        found = [it._replace(paid=0) for it in found]
+    if words.account:
+        print(f"number {found[0].number}")
+    places.become_user()
+    with store.opened() as db:
+        again(db, book, day) if day else sell(db, book, found)
+    return 0

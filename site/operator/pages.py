@@ -1,0 +1,56 @@
+"""The operator's page: plots first, and a table of each for who wants the numbers."""
+
+import collections
+import datetime
+import time
+
+from radacctd_site.core import accounts, acts, names, places
+from radacctd_site.operator import sessions
+
+# How many days are shown, and how many lines of a list.
+DAYS, LINES = 30, 200
+# A column of a plot: its name, how high it is above and below the line, what is shown of it, and its
+# line of the table.
+Column = collections.namedtuple("Column", "name above below text cells")
+
+
+def look(visit):
+    book, (known, moment) = places.book(), accounts.known()
+    found, now = sessions.of_all(book, known), int(time.time())
+    sold = by_day(visit.db, datetime.date.today())
+    total = acts.total(it for _, it in sold)
+    hours = sessions.by_hour(found or (), now)
+    return visit.page(
+        "operator/look.html", moment=moment, lines=LINES, is_told=found is not None,
+        left_out=len(known) > sessions.MOST, most=sessions.MOST, now=now,
+        on=sessions.on(found or (), now), today=sold[-1][1], total=total,
+        days=[day_column(visit, *it) for it in sold], overdrawn=overdrawn(visit, book),
+        hours=[Column(name, octets, 0, visit.data(octets), (name, visit.data(octets)))
+               for name, octets in hours],
+        octets=sum(octets for _, octets in hours), waiting=acts.waiting(visit.db))
+
+
+def day_column(visit, day, it):
+    net = visit.sum(it["net"])
+    return Column(day, it["sold"], -it["back"], net,
+                  (day, it["count"], visit.sum(it["sold"]), visit.sum(-it["back"]), net))
+
+
+def by_day(db, today):
+    """The sums of each of the last days, all persons together."""
+    first, rows = today - datetime.timedelta(days=DAYS - 1), {}
+    for day, _, it in acts.by_day(acts.of_days(db, first, today)):
+        rows.setdefault(day, []).append(it)
+    days = ((first + datetime.timedelta(days=at)).isoformat() for at in range(DAYS))
+    return [(day, acts.total(rows.get(day, ()))) for day in days]
+
+
+def overdrawn(visit, book):
+    """Who is below 0, by how much, the most first; None if the book does not say."""
+    status, found = book.look("/overruns")
+    if status != 200:
+        return None
+    rows = sorted(found["overruns"], key=lambda it: -it["overrun"])
+    return [Column(name, it["overrun"], 0, visit.sum(it["overrun"]),
+                   (name, visit.sum(it["overrun"])))
+            for it in rows for name in [names.readable(it["account"])]]
