@@ -270,8 +270,10 @@ class Desk(http.server.BaseHTTPRequestHandler):
 
     def do_POST(self):
         it = json.loads(self.rfile.read(int(self.headers["Content-Length"])))
-        status = self.book.sell(it["voucher"], it["account"].encode(), it["sum"])
-        self.says(status, {"result": "new"})
+        account = urllib.parse.unquote_to_bytes(it["account"])
+        status = self.book.sell(it["voucher"], account, it["sum"])
+        said = {201: ("result", "new"), 200: ("result", "repeat")}
+        self.says(status, dict([said.get(status, ("error", "voucher differs"))]))
 
     def says(self, status, body):
         body = json.dumps(body, separators=(",", ":"), sort_keys=True).encode()

@@ -1,0 +1,98 @@
+"""Makes, lists, prints and ends logins of a package: codes, and names with a password.
+
+A code is name and password. It logs in once the book has its sum. Cards are a page: print it at
+https://HOST/packages/SHEET, or write it by `print` into a file that a browser prints. Who has that
+page may use the codes. What is left on a login that ended stays on its account.
+"""
+
+import csv
+import datetime
+import sys
+
+from radacctd_site.core import Failed, cli, codes, money, names, places, store
+from radacctd_site.packages import logins, packages, paper
+
+# Above these a person is asked: so many codes, and so much money together.
+ASK_COUNT, ASK_TOTAL = 100, 1000
+COLUMNS = ("account", "package", "state", "sum", "sheet", "who", "made")
+
+
+def arguments(it):
+    acts = it.add_subparsers(dest="act", required=True)
+    make = acts.add_parser("make", help="make and sell codes, or a name with a password")
+    make.add_argument("package")
+    make.add_argument("--count", type=int, default=1, help=f"how many codes: 1 to {logins.MOST}")
+    make.add_argument("--name", help="the name of a guest, in the place of a code")
+    listed = acts.add_parser("list", help="print logins as CSV: all, or those of a text")
+    listed.add_argument("what", nargs="?", help="a code, name, serial number, sheet or package")
+    printed = acts.add_parser("print", help="print cards as a page for a browser (HTML)")
+    printed.add_argument("what", help="a code, name, serial number or sheet")
+    end = acts.add_parser("end", help="end logins for ever")
+    end.add_argument("what", nargs="+", help="a code, name, serial number or sheet")
+    for one in (make, end):
+        one.add_argument("--yes", action="store_true", help="ask nothing")
+
+
+def make(db, book, key, words):
+    package, site = packages.for_sale(db, words.package), money.of_site(places.SETTINGS)
+    count, worth = words.count, site.shown(package.sum)
+    if not 1 <= count <= logins.MOST or words.name and count != 1:
+        raise Failed(f"make 1 to {logins.MOST} codes, or one name")
+    if words.name and (why := logins.why_not(words.name)):
+        raise Failed(f"{words.name} cannot be a name: {why}")
+    if count > ASK_COUNT or count * package.sum > ASK_TOTAL * 10**site.decimals:
+        cli.confirm(f"{count} codes of {worth}, {site.shown(count * package.sum)} together?",
+                    words.yes)
+    sheet = f"{package.name}-{datetime.date.today():%Y%m%d}-{codes.letters(5)}" * (count > 1)
+    made = [logins.drawn(key, package, codes.new(), "command", words.name or "", sheet)
+            for _ in range(count)]
+    logins.make(db, book, made)
+    url = places.settings()["url"].rstrip("/")
+    what = sheet or made[0].account
+    print(f"{count} of {package.name}, {worth} each. Print: {url}/packages/{paper.quoted(what)}")
+    if not sheet:
+        print(f"{made[0].account}, password {made[0].secret}" if words.name else made[0].secret)
+    wait = sum(it["state"] != logins.LIVE for it in logins.named(db, what))
+    if wait:
+        raise Failed(f"{wait} of them log in once the book has answered: it is asked each minute")
+
+
+def show(db, what):
+    found = logins.named(db, what) if what else logins.listed(db)
+    found = found or logins.listed(db, "package = ?", what)
+    writer, site = csv.writer(sys.stdout, lineterminator="\n"), money.of_site(places.SETTINGS)
+    writer.writerow(COLUMNS)
+    for it in found:
+        moment = packages.moment(it["made"])
+        row = {**it, "sum": site.plain(it["sum"]), "made": moment}
+        writer.writerow([names.cell(str(row[name])) for name in COLUMNS])
+
+
+def end(db, words):
+    found = {}
+    for what in words.what:
+        one = {it["account"]: it["state"] for it in logins.named(db, what)}
+        if not one:
+            raise Failed(f"{what} is no code, name, serial number or sheet: nothing was ended")
+        found |= one
+    open_ones = [it for it, state in found.items() if state != logins.ENDED]
+    if len(open_ones) > 1:
+        cli.confirm(f"End {len(open_ones)} logins for ever?", words.yes)
+    logins.end(db, open_ones)
+    print(f"ended: {len(open_ones)}; {len(found) - len(open_ones)} had ended before")
+
+
+def main(words):
+    # Both are read as whoever gave the command.
+    book, key = (places.book(), logins.key()) if words.act == "make" else (None, None)
+    places.become_user()
+    with store.opened() as db:
+        if words.act == "make":
+            make(db, book, key, words)
+        elif words.act == "list":
+            show(db, words.what)
+        elif words.act == "print":
+            print(paper.page(db, words.what))
+        else:
+            end(db, words)
+    return 0
