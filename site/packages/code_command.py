@@ -14,6 +14,8 @@ from radacctd_site.packages import logins, packages, paper
 
 # Above these a person is asked: so many codes, and so much money together.
 ASK_COUNT, ASK_TOTAL = 100, 1000
+# Who sells by a command: no person can have this name.
+COMMAND = "(command)"
 COLUMNS = ("account", "package", "state", "sum", "sheet", "who", "made")
 
 
@@ -44,12 +46,12 @@ def make(db, book, key, words):
         cli.confirm(f"{count} codes of {worth}, {site.shown(count * package.sum)} together?",
                     words.yes)
     sheet = f"{package.name}-{datetime.date.today():%Y%m%d}-{codes.letters(5)}" * (count > 1)
-    made = [logins.drawn(key, package, codes.new(), "command", words.name or "", sheet)
+    made = [logins.drawn(key, package, codes.new(), COMMAND, words.name or "", sheet)
             for _ in range(count)]
     logins.make(db, book, made)
-    url = places.settings()["url"].rstrip("/")
     what = sheet or made[0].account
-    print(f"{count} of {package.name}, {worth} each. Print: {url}/packages/{paper.quoted(what)}")
+    print(f"{count} of {package.name}, {worth} each. To print: radacctl code print '{what}', or "
+          f"/packages/{paper.quoted(what)}")
     if not sheet:
         print(f"{made[0].account}, password {made[0].secret}" if words.name else made[0].secret)
     wait = sum(it["state"] != logins.LIVE for it in logins.named(db, what))
