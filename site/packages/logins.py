@@ -46,7 +46,7 @@ def drawn(digest_key, package, code, who, name="", sheet=""):
 
 def why_not(name):
     """Why nobody may log in by a name, or None."""
-    if not packages.PLAN.fullmatch(name):
+    if not packages.PLAIN.fullmatch(name):
         return "it has other characters than letters, digits, spaces and . _ @ -"
     return "it is a code" if codes.read(name) else names.why_not(name)
 

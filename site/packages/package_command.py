@@ -54,7 +54,7 @@ def changes_of(words):
     """What the options change."""
     found, site = {}, money.of_site(places.SETTINGS)
     if words.plan is not None:
-        if not packages.PLAN.fullmatch(words.plan):
+        if not packages.PLAIN.fullmatch(words.plan):
             raise Failed(f"{words.plan} is no plan: letters, digits, spaces and . _ @ -")
         found["plan"] = words.plan
     if words.sum is not None:
