@@ -14,8 +14,6 @@ CONFIG, COPIES = "/etc/radacctd.toml", "/var/backups/radacctd"
 # A test that goes on over midnight has a copy of both days.
 LAST = f"$(ls -d {COPIES}/20* | tail -1)"
 MIRROR = "/run/radacctd-mirror/balances.db"
-LOGINS = "/var/lib/radacctd-logins/logins.db"
-AS_FREERAD = "setpriv --reuid freerad --regid freerad --clear-groups"
 PROGRAM = "/usr/local/libexec/radacctd/radacctd"
 # A report with a wrong secret, straight to radacctd.
 WRONG = "echo 'User-Name=a,Acct-Status-Type=Start,Acct-Session-Id=1"
@@ -110,17 +108,6 @@ BREAKS = {
                        "systemctl start radacctd-mirror"),
     "mirror-plans": (f"systemctl stop radacctd-mirror; sqlite3 {MIRROR} 'UPDATE plan SET unit = 7'",
                      "systemctl start radacctd-mirror"),
-    "packages-steps": edited("s/^\\tradacctd_packages_report$//",
-                             f"{RADDB}/sites-available/default"),
-    "packages-lost": (f"mv {LOGINS} /root/kept.db", f"mv /root/kept.db {LOGINS}"),
-    "packages-shut": (f"chmod 0 {LOGINS}", f"chmod 600 {LOGINS}"),
-    "packages-key": edited("s/^\\tkey = ./\\tkey = x/", f"{RADDB}/radacctd/packages.conf"),
-    "packages-file": appended("\\n[[package]]\\n", "/etc/radacctd-packages/packages.toml"),
-    "packages-wait": (f"systemctl stop radacctd-packages.timer; {AS_FREERAD} sqlite3 {LOGINS} "
-                      "\"INSERT INTO lapse VALUES (x'61', 'LAPSE-X', 1, 1, 0)\"",
-                      f"{AS_FREERAD} sqlite3 {LOGINS} 'DELETE FROM lapse'; "
-                      "systemctl start radacctd-packages.timer"),
-    "packages-logged": edited("s/^\\tauth = no/\\tauth = yes/", f"{RADDB}/radiusd.conf"),
     "nginx-wrong": ("echo 'x y' > /etc/nginx/conf.d/zz.conf", "rm /etc/nginx/conf.d/zz.conf"),
     "pages-silent": ("systemctl stop radacctd-site.socket radacctd-site.service",
                      "systemctl start radacctd-site.socket"),

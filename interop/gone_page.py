@@ -22,7 +22,7 @@ PAIR = "RADACCTD_OWN=127.0.0.1\nRADACCTD_OTHER=127.0.0.1\n"
 # What a site has in files of its own, which must be as it was, with owner and rights.
 FILES = [CONFIG, "/etc/default/radacctd", "/etc/default/radacctd-pair", "/etc/radacctd-site.key"]
 FILES += ["/etc/radacctd-cashier.key", "/etc/radacctd-books.secret", "/etc/radacctd-web/*.json"]
-FILES += ["/etc/nginx/conf.d/*", "/var/lib/radacctd-withdrawn/*"]
+FILES += ["/etc/nginx/conf.d/*"]
 FILES += [f"{RADDB}/radacctd/*", f"{RADDB}/radiusd.conf", f"{RADDB}/sites-enabled/*"]
 FILES += [f"{RADDB}/mods-enabled/radacctd", desk_page.CERTIFICATE, desk_page.PRIVATE_KEY]
 FILES += ["/etc/systemd/system/radacctd*.service", "/var/lib/radacctd-books/*"]

@@ -25,7 +25,7 @@ MIRROR = "http://deb.debian.org/debian"
 PACKAGES = ["systemd", "systemd-sysv", "dbus", "python3", "procps", "sensible-utils", "libbpf1"]
 # What a whole site has: FreeRADIUS, nginx, printed vouchers, copies from one machine to another.
 SITE = ["curl", "freeradius", "freeradius-utils", "iproute2", "nginx"]
-SITE += ["fonts-dejavu-core", "openssh-client", "openssh-server", "python3-reportlab", "qrencode"]
+SITE += ["openssh-client", "openssh-server", "qrencode"]
 SITE += ["rsync", "sqlite3"]
 SITE += ["gunicorn", "libjs-bootstrap5", "python3-bottle", "python3-jinja2", "python3-segno"]
 CACHE = os.environ.get("RADACCTD_ROOTS", "/var/tmp/radacctd-interop")

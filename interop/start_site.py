@@ -33,11 +33,10 @@ def prepare(box, folder):
     box.write(ANSWERS, answers(box), 0o600)
 
 
-def prepare_packages(box, folder):
-    """The same for a site that sells packages, and has operators."""
+def prepare_operators(box, folder):
+    """The same for a site that has operators."""
     prepare(box, folder)
-    box.must("sed -i 's/^# packages = true/packages = true/; "
-             f"s/^# operators/operators/' {ANSWERS}")
+    box.must(f"sed -i 's/^# operators/operators/' {ANSWERS}")
 
 
 ROLE = """CREATE ROLE radius LOGIN PASSWORD '{}';

@@ -86,15 +86,7 @@ ALLOWED = {
         "and_then(word_of)": "shows what the checker does not accept",
     },
     "docs/DAMAGE.md": each("restore makes it", ".restore.*", "book.replaced-..."),
-    "man/radacctl.8": each("a command of radacctl", "night", "guest", "allow", "person", "sales", "who"),
-    "docs/PACKAGES.md": {
-        **each("a member of the file of packages", "title", "valid", "until", '"sale"',
-               "slow.down", "slow.up", "slow.plan", "slow.reply"),
-        "slow_below": "a line of etc/packages/packages.conf",
-        **each("a line of a client in FreeRADIUS", "radacctd_quota", "radacctd_speed"),
-        **each("FreeRADIUS' own", "home_server"),
-        **each("the form of a name", "t-0123456789ab", "LAPSE-"),
-    },
+    "man/radacctl.8": each("a command of radacctl", "night", "allow", "person", "sales", "who"),
     "docs/DOCTOR.md": {
         **each("a fault's name: .ci/tools compares them", "book-shut", "drop-secret", "log-odd"),
         "radacctd/settings.conf": "a copy of a file of etc/freeradius",

@@ -28,16 +28,13 @@ def table(*rows):
 
 # ---- why a login is refused
 
-POLICIES = ("etc/freeradius/policy", "etc/packages/policy")
+POLICIES = ("etc/freeradius/policy",)
 LOGINS = {
     "Your allowance is spent.": "the name, octet for octet, has less than a unit. A sale counts some"
     " seconds later",
     "This name cannot be charged.": "[a name that may not log in](#which-names-may-log-in)",
     "Please try again in some minutes.": "[the balances are old](#how-old-a-balance-is), or there is"
-    " no mirror; with packages a database of logins cannot be used",
-    "This login is no longer valid.": "[its validity is over](PACKAGES.md#the-end-of-a-validity), or"
-    " it was withdrawn or ended",
-    "Too many devices use this login now.": "as many as [the package](PACKAGES.md) has are logged in",
+    " no mirror",
     "radacctd: the name '...' cannot be charged": "as above",
     "radacctd: radacctd_login is missing in the inner tunnel, or EAP's cache leaves it out": "do step"
     " 7 in the inner tunnel, too, and let `cache` have `enable = no` in the module of EAP",

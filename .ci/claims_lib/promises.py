@@ -19,7 +19,7 @@ from claims_lib.tree import ROOT, text_of
 
 OPERATORS = (
     "README ACCESS-SERVERS BOOK DAMAGE DESK DOCTOR FILES FORWARD FREERADIUS FRONTDESK GONE"
-    " INSTALL PACKAGES PAIR"
+    " INSTALL PAIR"
     " SEMANTICS SITE SIZING START TROUBLE VOUCHERS WATCHING"
 ).split()
 PROMISE = re.compile(
@@ -42,7 +42,6 @@ WHOLE = (
     ("docs/DAMAGE.md", "What is not found", "text"),
     ("docs/FREERADIUS.md", "What you can rely on", "row"),
     ("docs/FREERADIUS.md", "Reports that do not reach radacctd", "row"),
-    ("docs/PACKAGES.md", "What you can rely on", "row"),
     ("docs/SEMANTICS.md", "What a kill leaves", "row"),
     ("docs/SIZING.md", "How often a commit syncs", "row"),
     ("docs/TROUBLE.md", "What an outage costs", "row"),

@@ -32,7 +32,6 @@ MOST = {
     "docs/GATE.md": 965,
     "docs/GONE.md": 710,
     "docs/INSTALL.md": 1050,
-    "docs/PACKAGES.md": 1600,
     "docs/PAIR.md": 1850,
     "docs/PROOFS.md": 2335,
     "docs/SEMANTICS.md": 1130,

@@ -21,7 +21,6 @@ BY_HAND = {
     "DOCTOR": "interop/doctor breaks a site in each way of the page",
     "DAMAGE": "each way needs damage of its own; interop/flips and interop/telling make some of it",
     "FRONTDESK": "a clerk's page: no command",
-    "PACKAGES": "interop/packages runs each of its tools over a site of its own",
     "README": "bin/try and bin/build run it",
     "SEMANTICS": "what replies mean: its commands are those of other pages",
     "SIZING": "it changes the kernel's settings",

@@ -17,9 +17,9 @@ from unittest import mock
 
 from radacctl import configuration, files, freeradius, site as places
 from radacctl.commands import setup, site as copying
-from radacctl.doctor import book, front as of_front, machine, packages as of_packages
+from radacctl.doctor import book, front as of_front, machine
 from radacctl.doctor import web as of_web
-from radacctl.setup import alone, answers, away, front, packages as of_setup, pair as of_pair, sql
+from radacctl.setup import alone, answers, away, front, pair as of_pair, sql
 from radacctl.setup import steps, web
 import tool_tests
 from tool_tests import ROOT
@@ -123,7 +123,7 @@ class Sections(unittest.TestCase):
                 self.assertEqual(away.lines_out(front.default(text, one, "x")), text)
 
     def test_a_line_with_a_comment_is_a_line(self):
-        one = wanted(packages=True)
+        one = wanted()
         text = front.default(SERVER.replace("post-auth {", "preacct {\n}\npost-auth {\n"
                                             "Post-Auth-Type REJECT {\n}"), wanted(), "x")
         begun = away.lines_out(text)
@@ -261,16 +261,6 @@ class Again(Folder):
         self.assertEqual([it.name for it in found][:1], ["mode-open"])
         self.assertIn("chmod 640", found[0].cure)
 
-    def test_a_key_of_codes_that_others_may_read_is_told(self):
-        self.patched(places, "RADDB", self.folder)
-        path = self.put("", "radacctd", "packages.conf", mode=0o644)
-        self.patched(of_packages.files, "text", lambda _: "")
-        self.patched(of_packages.files, "sample", lambda *_: "")
-        found = [it.text for it in of_packages.lines() if it.name == "mode-open"]
-        self.assertEqual(found, [f"others may read {path}: it has 644"])
-        os.chmod(path, 0o640)
-        self.assertNotIn("mode-open", [it.name for it in of_packages.lines()])
-
     def test_a_page_of_nginx_that_is_not_debians_stays(self):
         self.patched(web, "DEFAULT", os.path.join(self.folder, "enabled"))
         self.patched(web, "OF_PACKAGE", self.path)
@@ -324,12 +314,6 @@ class Again(Folder):
                     self.assertRaisesRegex(steps.Failed, "has 2 decimals", web.settings, old, one)
                 else:
                     self.assertIn('"decimals": 0', web.settings(old, one))
-
-    def test_a_key_of_codes_is_not_shown(self):
-        self.put("packages {\n\tkey = change-me-0123456789\n}\n")
-        said = steps.File(self.path, of_setup.settings, 0o640).text()
-        self.assertIn("(a line with a secret)", said)
-        self.assertNotIn("key =", said)
 
     def started(self, start="a", **begun):
         """A unit runs, of which nothing is known but when it began, by the clock as it is now."""
@@ -644,8 +628,6 @@ class TakenOut(Folder):
         self.patched(away, "drain", lambda: self.given.append("drain"))
         for name in ("servers", "rest"):
             self.patched(away, name, lambda: [])
-        self.patched(away, "TIMER", os.path.join(self.folder, "timer"))
-        self.patched(away, "LAST", (away.TIMER, os.path.join(self.folder, "drop-in")))
         self.patched(away, "units", lambda: [os.path.join(self.folder, "radacctd-mirror.service")])
 
     def removed(self):
@@ -664,19 +646,18 @@ class TakenOut(Folder):
 
     def test_the_last_file_is_a_trace_of_it(self):
         self.assertEqual(away.listed(), [])
-        for path in (*away.LAST, *away.units()):
+        for path in away.units():
             self.put("", path)
             self.assertTrue(any(path in it for it in away.listed()))
             os.remove(path)
 
     def test_what_reads_the_mirror_is_stopped_before_it(self):
-        for path in (away.TIMER, *away.units()):
+        for path in away.units():
             self.put("", path)
         with mock.patch.object(steps.Fresh, "is_done", lambda _: True):
             self.removed()
         found = [it for it in self.given if re.search(" (disable|stop) ", it)]
-        self.assertEqual(found, ["systemctl disable --now radacctd-packages.timer",
-                                 "systemctl stop radacctd-mirror.service",
+        self.assertEqual(found, ["systemctl stop radacctd-mirror.service",
                                  "systemctl disable radacctd-mirror.service"])
 
     def test_sessions_that_freeradius_opens_now_are_ended_by_a_later_set_up(self):

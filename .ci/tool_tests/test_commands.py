@@ -10,7 +10,7 @@ import unittest
 from unittest import mock
 
 from radacctl import configuration, debits, desk, files, keys, main, names, stock
-from radacctl.commands import allow, debit, guest, key, packages, sell
+from radacctl.commands import allow, debit, key, sell
 from tool_tests import ROOT, Folder
 
 CONFIG = '''# A site.
@@ -138,8 +138,7 @@ class Debits(unittest.TestCase):
 class UsualDesk(unittest.TestCase):
     def test_the_tools_of_a_pair_sell_in_both_books(self):
         """By the outbox: a sale at a desk of a pair is in one book only."""
-        sales = (allow, ["x", "--month", "2026-12"]), (guest, ["list"])
-        sales += (packages, ["sell", "x"]), (packages, ["tick"])
+        sales = (allow, ["x", "--month", "2026-12"]),
         for path, port in (("/nonexistent", 8066), (__file__, 8067)):
             with mock.patch.object(desk, "PAIR", path):
                 found = {it.parser().parse_args(words).port for it, words in sales}

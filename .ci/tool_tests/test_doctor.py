@@ -16,7 +16,7 @@ import unittest.mock
 from radacctl import files, freeradius, program, site as places
 from radacctl.commands import doctor, setup
 from radacctl.doctor import book, copies, faults, front as fronts, kind, look, machine
-from radacctl.doctor import packages as of_packages, pair as pairs, web as pages
+from radacctl.doctor import pair as pairs, web as pages
 from radacctl.setup import alone, answers, front, pair, sql, steps
 from tool_tests import ROOT, Folder
 
@@ -443,12 +443,11 @@ class Sound(unittest.TestCase):
         files.make(path, text.encode())
 
     def test_files_that_radiusd_conf_includes(self):
-        names = ("settings.conf", "access-servers.conf", "pair.conf", "packages.conf")
+        names = ("settings.conf", "access-servers.conf", "pair.conf")
         for folder in ("\t", " /etc/freeradius/3.0/", " ${confdir}/", "  "):
             self.put("".join(f"$INCLUDE{folder}radacctd/{it}\n" for it in names), "radiusd.conf")
             with said((0, "")), unittest.mock.patch.object(files, "sample", lambda *_: ""):
                 found = list(fronts.steps(unittest.mock.Mock(has_pair=True)))
-                found += of_packages.lines()
             self.assertEqual([it.text for it in found if "does not include" in it.text], [], folder)
         self.put("# $INCLUDE radacctd/settings.conf\n", "radiusd.conf")
         with said((0, "")):

@@ -6,8 +6,8 @@ import tomllib
 import unittest
 from unittest import mock
 
-from radacctl import freeradius, lapses, site as places
-from radacctl.doctor import front as doctor_front, packages as doctor_packages
+from radacctl import freeradius, site as places
+from radacctl.doctor import front as doctor_front
 from radacctl.setup import answers, away, front, pair, sql, steps
 from tool_tests.test_setup import Folder, PLAN
 
@@ -281,40 +281,36 @@ class Existing(Folder):
                  "\tport = 1700\n\tsecret = of-it\n}\n")
         wanted = self.wanted({"name": "wlc", "address": "10.0.0.1", "vendor": "cisco"})
         self.assertNotIn("home_server", front.clients(None, wanted))
-        # Nor is it only FreeRADIUS that asks there: so do check-out and the end of a validity.
-        self.assertEqual(lapses.cut_servers(), {"10.0.0.1": ("1700", "of-it")})
 
     def test_who_is_slowed_is_asked_by_coa(self):
         """Only by an answer, since such a session has no quota, and only where somebody is asked."""
         one = {"name": "lobby", "address": "10.0.9.9", "vendor": "mikrotik"}
         coa = {**one, "coa": True}
-        text = front.clients(None, self.wanted(one, packages=True))
+        text = front.clients(None, self.wanted(one))
         self.assertNotIn("radacctd_coa", text)
-        new = front.clients(None, self.wanted(coa, packages=True))
-        later = front.clients(text, self.wanted(coa, packages=True))
+        new = front.clients(None, self.wanted(coa))
+        later = front.clients(text, self.wanted(coa))
         alone = front.clients("client lobby {\n\tipaddr = 10.0.9.9\n\tsecret = x\n}\n",
-                              self.wanted(coa, packages=True))
+                              self.wanted(coa))
         for text in (new, later, alone):
             block = dict(freeradius.blocks("client", text))["lobby"]
             self.assertEqual(freeradius.value(block, "radacctd_coa"), "yes")
             self.assertEqual(text.count("home_server cut-10.0.9.9 {"), 1)
-            self.assertEqual(front.clients(text, self.wanted(coa, packages=True)), text)
+            self.assertEqual(front.clients(text, self.wanted(coa)), text)
         said = "client lobby {\n\tipaddr = 10.0.9.9\n\tradacctd_coa = no\n}\n"
-        self.assertNotIn("coa = yes", front.clients(said, self.wanted(coa, packages=True)))
+        self.assertNotIn("coa = yes", front.clients(said, self.wanted(coa)))
         wlc = {**coa, "address": "10.0.0.1"}
         found = self.changed("clients.conf", lambda it: front.with_lines(
-            it, "clients.conf", self.wanted(wlc, packages=True)))
+            it, "clients.conf", self.wanted(wlc)))
         self.assertIn("\tradacctd_stamp = login\n\tradacctd_coa = yes\n}\n", found)
-        for more in ({"vendor": "openwrt"}, {"address": "10.0.9.0/24"}, {"packages": False}):
-            packages = more.pop("packages", True)
-            self.assertRaisesRegex(answers.Wrong, "coa", self.wanted, {**coa, **more},
-                                   packages=packages)
+        for more in ({"vendor": "openwrt"}, {"address": "10.0.9.0/24"}):
+            self.assertRaisesRegex(answers.Wrong, "coa", self.wanted, {**coa, **more})
 
     def test_the_doctor_knows_who_is_asked(self):
         self.put("clients.conf", CLIENTS.replace("\tlimit", "\tradacctd_cut = yes\n\tlimit"))
         os.mkdir(os.path.join(self.folder, "radacctd"))
         one = {"name": "lobby", "address": "10.0.9.9", "vendor": "mikrotik", "coa": True}
-        text = front.clients(None, self.wanted(one, packages=True))
+        text = front.clients(None, self.wanted(one))
         self.put("radacctd/access-servers.conf", text)
         [found] = doctor_front.cut_off()
         self.assertEqual(found.name, "raddb-steps")
@@ -416,18 +412,6 @@ class Existing(Folder):
         self.put("sites-enabled/eduroam", SERVER)
         self.assertEqual(list(front.others(wanted)), [])
 
-    def test_the_doctor_looks_for_packages_in_each_server_of_a_file(self):
-        more = "preacct {\n}\npost-auth {\n\tPost-Auth-Type REJECT {\n\t}\n"
-        text = SERVER.replace("post-auth {\n", more)
-        text += text.replace("eduroam", "more")
-        found = front.default(text, self.wanted(packages=True), "x")
-        begin = found.index("server more")
-        for line in ("", "\tradacctd_packages\n", "\tradacctd_packages_login\n",
-                     "\tradacctd_packages_report\n"):
-            self.put("sites-enabled/eduroam", found[:begin] + found[begin:].replace(line, "", 1))
-            told = [it.text for it in doctor_packages.lines() if "sites-enabled/eduroam" in it.text]
-            self.assertEqual(told, ["sites-enabled/eduroam lacks a line of packages"] * bool(line))
-
     def test_logins_and_reports_may_have_a_server_each(self):
         """Then a file is taken for one server, as its first lines say."""
         text = SERVER.replace("accounting {", "}\nserver reports {\naccounting {", 1)
@@ -461,16 +445,15 @@ class Existing(Folder):
 
     def test_what_was_put_in_is_taken_out(self):
         servers = {"x": SERVER.replace("\t-sql\n", ""), "y": SERVER.replace("\tsql\n", "")}
-        packages = {"packages": True, "sql": {"password_file": "/root/x"}}
         for name, text in servers.items():
             more = "preacct {\n}\npost-auth {\n\tPost-Auth-Type REJECT {\n\t}\n"
             text = text.replace("post-auth {\n", more)
-            found = front.default(text, self.wanted(**packages), name)
+            found = front.default(text, self.wanted(sql={"password_file": "/root/x"}), name)
             self.assertNotEqual(found, text)
             self.assertEqual(away.lines_out(found), text)
         text = RADIUSD.format(self.folder)
         pair = {"own": "10.9.0.5", "other": "10.9.0.6"}
-        for more in ({"pair": pair}, {"packages": True}):
+        for more in ({"pair": pair}, {}):
             found = away.includes_out(front.main(text, self.wanted(**more)))
             self.assertEqual(found.replace(f"$INCLUDE {away.CLIENTS}\n", ""), text)
         # FreeRADIUS would read on without a word, and without any access server.

@@ -62,8 +62,7 @@ class Expansions(unittest.TestCase):
         both = re.compile(r'"[^"\n]*%\{[^"\n]*" [!=]= "[^"\n]*%\{[^"\n]*"')
         self.assertTrue(both.search('"%{control:Tmp-String-2}" != "%{hex:&User-Name}"'))
         found = []
-        for name in ("freeradius/policy", "freeradius/devices", "packages/policy",
-                     "packages/server", "freeradius/server", "pair/pair-server"):
+        for name in ("freeradius/policy", "freeradius/devices", "freeradius/server", "pair/pair-server"):
             with open(os.path.join(ROOT, "etc", name), encoding="utf-8") as file:
                 found += both.findall(file.read())
         self.assertEqual(found, [])

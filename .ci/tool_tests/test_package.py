@@ -35,7 +35,6 @@ EXCEPTIONS = {
     "radacctd-key.service": ROOTS | {"ProtectProc"},
     # A command of the site, where the site says.
     "radacctd-nightly.service": ROOTS | {"ProtectSystem", "ProtectHome"},
-    "radacctd-packages.service": ROOTS | {"ProtectProc", "ProtectHome"},
 }
 
 

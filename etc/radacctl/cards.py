@@ -1,10 +1,10 @@
 """Cards for one guest: an HTML file to print, with the codes that a phone scans."""
 
 import re
+import subprocess
 
 from radacctl import money
 from radacctl.program import Failed
-from radacctl.sheets import qrencoded
 
 PAGE = """<!doctype html>
 <html lang="en">
@@ -44,7 +44,11 @@ def address(given):
     return url
 
 
-def svg(text, margin=1):
-    """A QR code to be put into a page."""
-    drawn = qrencoded(text, "-t", "SVG", "-m", str(margin), "--inline")
+def svg(text):
+    """A QR code to be put into a page. qrencode reads the text: so no list of processes has it."""
+    words = ["qrencode", "-t", "SVG", "-m", "1", "--inline", "-o", "-"]
+    try:
+        drawn = subprocess.run(words, input=text, capture_output=True, text=True, check=True).stdout
+    except (OSError, subprocess.CalledProcessError):
+        raise Failed("a QR code needs qrencode: apt install qrencode") from None
     return re.sub(r"<\?xml.*?\?>|<!--.*?-->|<!DOCTYPE.*?>", "", drawn, flags=re.S).strip()

@@ -47,10 +47,6 @@ def config_of(text, path):
     return config
 
 
-def config_in(path):
-    return config_of(read(path), path)
-
-
 def lines_of(text):
     """The lines with their ends. Only a line feed ends one, as in TOML."""
     return re.findall(r"[^\n]*\n|[^\n]+", text)

@@ -14,8 +14,6 @@ COMMANDS = {
     "doctor": "says what is wrong with a site, and what to do",
     "key": "makes, ends and lists guests' keys",
     "debit": "takes money from an account, once",
-    "packages": "prints, sells and ends codes that log in",
-    "guest": "makes a guest's login, page and card, and ends them",
     "allow": "credits each account of a list once a month",
     "report": "reports a day or a month",
     "night": "copies the site for the night",

@@ -56,19 +56,6 @@ def are_written(moment, path):
                          and moment <= os.stat(path).st_mtime <= time.time(), WRITTEN)
 
 
-def await_balances(moment, path=None):
-    """The same; without them nothing is done."""
-    path = path or site.BALANCES
-    if not are_written(moment, path):
-        program.fail(f"{path} is not written anew: nothing was done. Is radacctd running?")
-
-
-def known_accounts():
-    """The accounts of the book: a number that was sold once is never made again."""
-    with program.told(program.fail, "", OSError, ValueError, after=": is radacctd running?"):
-        return {shown(it) for it in balances()}
-
-
 def csv_of(header, rows):
     """The text of a CSV file for programs."""
     text = io.StringIO(newline="")

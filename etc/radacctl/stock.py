@@ -1,4 +1,4 @@
-"""Logs that only grow, each by one run at a time, and codes.
+"""Logs that only grow, each by one run at a time.
 
 Lines are only added, each on the disk before it counts; a last line without its end was never
 counted.
@@ -12,7 +12,7 @@ import io
 import os
 import time
 
-from radacctd_site.core.codes import letters, new as new_code
+from radacctd_site.core.codes import letters
 from radacctl import files, names, program
 
 # How long another run is waited for, in seconds, and how large a file may be.
@@ -136,9 +136,3 @@ class Log:
 
     def close(self):
         os.close(self.handle)
-
-
-def add_rows(path, header, rows):
-    """Adds rows to a log; they are on the disk, or it is a fault."""
-    with contextlib.closing(Log(path, header)) as log:
-        log.add(lines_of(rows))

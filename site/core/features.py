@@ -9,6 +9,10 @@ Nothing else names a feature, so one whose folder is removed is gone. A feature.
     EACH_MINUTE  what is done each minute, by the name of a function
     PACKAGES   of Debian, which the set-up installs
     UNITS      which the set-up enables
+    SETUP      its part of the set-up: a module that may have packages(answers), files(answers,
+               config), units(answers) and tries(answers)
+    LOOKS      what the doctor looks at: a module that has look_at(kind)
+    PARTS      what a site may have, as the rows of radacctl.doctor.kind
 """
 
 import collections
@@ -39,6 +43,12 @@ def features():
 def listed(member):
     """What all features say under a name."""
     return [it for module in features().values() for it in getattr(module, member, ())]
+
+
+def modules(member):
+    """The module that each feature names, by the feature's name."""
+    return {name: importlib.import_module(f"{NAME}.{name}.{getattr(it, member)}")
+            for name, it in features().items() if hasattr(it, member)}
 
 
 def commands():

@@ -10,7 +10,7 @@ import os
 import sys
 import time
 
-from radacctd_site.core import Failed, acts, codes, desk, names
+from radacctd_site.core import Failed, accounts, acts, codes, desk, names
 from radacctd_site.core.acts import Act
 from radacctd_site.packages import packages, users
 
@@ -53,7 +53,7 @@ def why_not(name):
 
 def make(db, book, made):
     """Makes logins, and sells each by one credit. One that is there already stays as it is."""
-    taken = users.names()[0]
+    taken = users.names()[0] | {names.shown(it) for it in accounts.known()[0]}
     with db:
         db.execute("BEGIN IMMEDIATE")
         for it in made:
@@ -72,10 +72,11 @@ def make(db, book, made):
 
 
 def is_new(db, it, taken):
+    """Whether a login is to be made. Ends if FreeRADIUS, the book or a login has its name."""
     if db.execute("SELECT 1 FROM login WHERE number = ?", (it.number,)).fetchone():
         return False
-    if it.name in taken or db.execute("SELECT 1 FROM login WHERE account = ? OR name = ?",
-                                      (it.account, it.account)).fetchone():
+    had = db.execute("SELECT 1 FROM login WHERE account = ?1 OR name = ?1", (it.account,))
+    if had.fetchone() or {it.name, names.shown(it.account.encode())} & taken:
         raise Failed(f"{it.account} is there already, or was: nothing was sold. Give another name")
     return True
 

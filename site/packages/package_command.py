@@ -6,13 +6,10 @@ what the book credits to the login's account; by the plan of radacctd it is used
 """
 
 import json
-import os
 
-from radacctd_site.core import Failed, cli, money, names, places, store
+from radacctd_site.core import Failed, cli, corrections, money, names, places, store
 from radacctd_site.packages import logins, packages, users
 
-# The plans in force, which radacctd writes as it starts.
-PLANS = os.environ.get("RADACCTD_PLANS", "/var/lib/radacctd-balances/plans.json")
 # Each option of `put`: what reads its text, what `no` makes of it, and what it is.
 OPTIONS = {
     "speed": (packages.speed_of, {"down": None, "up": None},
@@ -42,10 +39,10 @@ def arguments(it):
 def need_plan(name):
     """Ends unless radacctd has a plan: a session of another name would cost what `default` does."""
     try:
-        with open(PLANS, encoding="utf-8") as file:
+        with open(corrections.PLANS, encoding="utf-8") as file:
             known = json.load(file)
     except (OSError, ValueError):
-        return print(f"{PLANS} is not there: nobody knows whether radacctd has a plan {name}")
+        return print(f"without {corrections.PLANS} nobody knows whether there is a plan {name}")
     if names.shown(name.encode()) not in known:
         raise Failed(f"radacctd has no plan {name}: {', '.join(known)}")
 

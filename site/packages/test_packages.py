@@ -5,12 +5,13 @@ import hashlib
 import io
 import sqlite3
 import time
+import unittest
 from unittest import mock
 
-from radacctd_site.core import Failed, acts, codes, desk, minute, store
+from radacctd_site.core import Failed, accounts, acts, codes, corrections, desk, minute, store
 from radacctd_site.core.features import CASHIER, OPERATOR
 from radacctd_site.core.test_client import Browser, Site
-from radacctd_site.packages import logins, package_command, packages, users
+from radacctd_site.packages import logins, packages, setup, users
 
 KEY = "key-of-codes-00001"
 CODE = "ACDEF-HJKMN-PQRT" + codes.check_letter("ACDEFHJKMNPQRT")
@@ -42,6 +43,8 @@ class Packages(Site):
         self.addCleanup(self.users.close)
         self.users.executescript(TABLES)
         self.enterContext(mock.patch.object(logins, "key", lambda: KEY))
+        with open(corrections.PLANS, "w", encoding="utf-8") as file:
+            file.write('{"gold": {}, "free": {}}')
         self.put("week", "--plan", "gold", "--sum", "9.00", "--devices", "2", "--valid", "7d")
         self.put("open", "--plan", "free", "--speed", "2M/1M")
 
@@ -106,13 +109,11 @@ class Terms(Packages):
         self.assertEqual(self.rows("radgroupcheck") | self.rows("radgroupreply"), before)
 
     def test_a_plan_is_one_of_radacctds(self):
-        path = f"{self.folder}/plans.json"
-        with open(path, "w", encoding="utf-8") as file:
+        with open(corrections.PLANS, "w", encoding="utf-8") as file:
             file.write('{"default": {}, "g%C3%A4ste": {}}')
-        with mock.patch.object(package_command, "PLANS", path):
-            with self.assertRaisesRegex(Failed, "no plan glod: default"):
-                self.put("week", "--plan", "glod")
-            self.put("week", "--plan", "gäste")
+        with self.assertRaisesRegex(Failed, "no plan glod: default"):
+            self.put("week", "--plan", "glod")
+        self.put("week", "--plan", "gäste")
         self.assertIn(("week", "Class", ":=", "gäste"), self.rows("radgroupreply"))
 
     def test_what_others_wrote_stays(self):
@@ -160,6 +161,11 @@ class Selling(Packages):
         self.assertRaisesRegex(Failed, "was", self.make, name="müller")
         logins.end(self.db, ["müller"])
         self.assertRaisesRegex(Failed, "was", self.make, name="müller")
+        path = f"{self.folder}/balances.csv"
+        with open(path, "w", encoding="utf-8") as file:
+            file.write("account,balance,overrun\nro%C3%B3m 1,500,0\n")
+        with mock.patch.object(accounts, "BALANCES", path):
+            self.assertRaisesRegex(Failed, "was", self.make, name="roóm 1")
         self.assertEqual(len(self.book.credits), 1)
         for name in (CODE, "a'b", "a%b", "a/b", " a", "", "ä\n"):
             self.assertIsNotNone(logins.why_not(name), name)
@@ -377,6 +383,16 @@ class StaffsPage(Packages):
             self.assertEqual(self.sell(browser), 422)
             self.assertEqual(self.minute(), 0)
         self.assertEqual(self.book.asked, [])
+
+
+class SetUp(unittest.TestCase):
+    def test_the_pages_of_a_site_with_front_get_the_key_of_codes(self):
+        for front, host, wanted in ((True, "a.example", True), (False, "a.example", False),
+                                    (True, "", False)):
+            answers = mock.Mock(has_front=front, host=host)
+            found = [it.path for it in setup.files(answers, None)]
+            self.assertEqual(setup.DROP_IN in found, wanted)
+            self.assertEqual(len([*setup.units(answers)]), 2 * wanted)
 
 
 class Store(Site):

@@ -119,11 +119,6 @@ def add_files(it):
                        db=site.BOOK)
 
 
-def add_to(it):
-    """The options of a debit, for a command that gives some beside sales."""
-    program.add(add_files(it), "--debit-port PORT", debit_port=int)
-
-
 def words_of(words=None):
     """The usual options of a debit, or those among a command's, whose host and port are a desk's."""
     usual = parser().parse_args(["--list"])

@@ -22,14 +22,14 @@ import os
 import re
 import time
 
+from radacctd_site.core import features
 from radacctl import files, program
-from radacctl.doctor import book, copies, faults, front, kind, machine, packages, pair, web
+from radacctl.doctor import book, copies, faults, front, kind, machine, pair, web
 
 SIDES = {
     "the machine": machine,
     "the configuration": book,
     "FreeRADIUS": front,
-    "packages": packages,
     "the pages": web,
     "the copies": copies,
     "the pair": pair,
@@ -54,7 +54,7 @@ LONGEST, LONGEST_COPIES = 300, 3600
 def found_in(site):
     """The faults of each side, and the sides that could not be looked at, with the reason."""
     found, lost = [], []
-    for name, side in SIDES.items():
+    for name, side in {**SIDES, **features.modules("LOOKS")}.items():
         try:
             with program.within(LONGEST_COPIES if side is copies else LONGEST):
                 for fault in side.look_at(site):

@@ -44,7 +44,6 @@ host = "accounts.example.org"       # the name of the pages; without it there ar
 currency = "EUR"
 decimals = 2
 cashiers = ["anna", "ben"]
-# packages = true                   # codes that log in, and guests: PACKAGES has the rest
 # operators = ["anna"]              # of these, who may do all at the pages
 # certificate = "/etc/letsencrypt/live/accounts.example.org/fullchain.pem"
 # certificate_key = "/etc/letsencrypt/live/accounts.example.org/privkey.pem"
@@ -59,7 +58,6 @@ unit = 1
 name = "lobby"
 address = "10.0.0.1"
 vendor = "mikrotik"                 # or unifi, pfsense, openwrt, aruba, cisco, other
-# coa = true                        # with packages: slowed by CoA where money ends, without a quota
 
 # FreeRADIUS also serves others: clients of its own whose logins are left alone, and your realms.
 # left_out = ["switches", "eduroam-proxy"]
@@ -89,16 +87,25 @@ def parser():
 
 def packages_of(wanted):
     parts = [(wanted.has_front, front.PACKAGES), (wanted.sql, sql.PACKAGES),
-             (wanted.host, web.PACKAGES), (wanted.has_packages, web.SHEETS)]
-    return [*dict.fromkeys(it for is_wanted, found in parts if is_wanted for it in found)]
+             (wanted.host, web.PACKAGES)]
+    found = [it for is_wanted, found in parts if is_wanted for it in found]
+    return [*dict.fromkeys([*found, *of_features("packages", wanted)])]
+
+
+def of_features(name, *given):
+    """What the features' own parts of the set-up yield."""
+    for part in features.modules("SETUP").values():
+        yield from getattr(part, name, lambda *_: ())(*given)
 
 
 def steps_of(wanted, config):
     """All steps but the packages and the proof."""
     yield from alone.of(wanted, config)
     yield from web.store(config)
+    yield from of_features("files", wanted, config)
     if wanted.has_front:
         yield from front.of(wanted, config)
+    yield from of_features("units", wanted)
     if wanted.pair:
         yield from pair.after(wanted, config)
     if wanted.host:

@@ -35,7 +35,7 @@ import time
 import tomllib
 
 from radacctd_site.core import features
-from radacctl import archive, files, freeradius, logins, plans, program, site
+from radacctl import archive, files, freeradius, plans, program, site
 from radacctl.doctor import look
 from radacctl.files import opened_folder as opened, regular
 from radacctl.program import say
@@ -51,8 +51,6 @@ PLACES = [
     "/etc/systemd/system/freeradius.service.d",
     "/etc/systemd/system/nginx.service.d",
     "/var/lib/radacctd-site",
-    "/var/lib/radacctd-withdrawn",
-    logins.FOLDER,
     site.BOOKS,
     "/var/lib/private/radacctd-outbox",
     "/var/lib/radacctd-outbox",
@@ -71,7 +69,7 @@ NAMING, LARGEST_NAMING = [site.RADDB, "/etc/nginx"], 1 << 20
 NAMED = re.compile(r"/etc/(?:ssl|letsencrypt)/[A-Za-z0-9._/-]+")
 NOT_NAMED = "/etc/ssl/certs/ca-certificates.crt"
 PACKAGES = ["freeradius*", "libfreeradius*", "nginx*", "libnginx*"]
-PACKAGES += ["fonts-dejavu-core", "python3-reportlab", *features.listed("PACKAGES")]
+PACKAGES += [*features.listed("PACKAGES")]
 PACKAGES += ["qrencode", "rsync", "ssl-cert"]
 UNITS = ["radacctd*", "freeradius.service", "nginx.service"]
 # What their packages enable, and a site may not.

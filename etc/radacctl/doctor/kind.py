@@ -2,6 +2,7 @@
 
 import os
 
+from radacctd_site.core import features
 from radacctl import site
 from radacctl.doctor import look
 
@@ -17,10 +18,9 @@ PARTS = [
       "/etc/systemd/system/radacctd-mirror.service")),
     ("has_pages", "with pages", "nginx.service radacctd-site.socket", (NGINX,)),
     ("has_site", "", "radacctd-minute.timer", (site.SITE_KEY, "/var/lib/radacctd-site")),
-    ("has_packages", "with packages", "radacctd-packages.timer",
-     (f"{site.RADDB}/mods-enabled/radacctd-packages", f"{site.RADDB}/radacctd/packages.conf")),
     ("has_pair", "one of a pair", "radacctd-outbox.service radacctd-state.socket "
      "radacctd-compare.timer", (site.PAIR, f"{site.RADDB}/radacctd/pair.conf")),
+    *features.listed("PARTS"),
 ]
 
 

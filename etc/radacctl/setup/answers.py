@@ -138,7 +138,7 @@ TOP = {
     "certificate_key": ("", text("a path from the root", f"({PATH})?")),
     "currency": ("", PRINTABLE), "decimals": (2, number(0, MOST_DECIMALS)),
     "cashiers": ([], CASHIERS),
-    "class": ("", PRINTABLE), "packages": (False, FLAG), "operators": ([], CASHIERS),
+    "class": ("", PRINTABLE), "operators": ([], CASHIERS),
     "left_out": ([], NAMES),
     "realms": ([], NAMES), "virtual_servers": ([], NAMES),
     "plan": (None, LIST), "access_server": ([], LIST), "pair": ({}, TABLE), "secrets": ({}, TABLE),
@@ -162,8 +162,7 @@ SQL = {"server": ("localhost", OF_SQL), "port": (5432, number(1, 65535)),
        "database": ("radius", OF_SQL), "login": ("radius", OF_SQL), "accounting": (False, FLAG),
        "password_file": (None, text("a path from the root", PATH))}
 # What a member needs next to it.
-NEEDS = [(it, "freeradius") for it in ("packages", "pair", "sql", "left_out", "realms",
-                                       "virtual_servers")]
+NEEDS = [(it, "freeradius") for it in ("pair", "sql", "left_out", "realms", "virtual_servers")]
 NEEDS += [("cashiers", "host"), ("host", "name"), ("host", "currency"),
           ("certificate", "certificate_key"), ("certificate_key", "certificate")]
 
@@ -202,7 +201,7 @@ class Answers:
         vars(self).update(it)
         self.plans = tables(it["plan"], PLAN, "plan")
         self.access_servers = tables(it["access_server"], ACCESS_SERVER, "access_server")
-        self.has_front, self.has_packages = it["freeradius"], it["packages"]
+        self.has_front = it["freeradius"]
         classes = [each["class"] for each in self.plans]
         self.usual_class = it["class"] or next(iter(classes), "")
         need("default" in classes, "each site has a plan `default`: write a [[plan]] of it")
@@ -232,9 +231,9 @@ class Answers:
             need(self.has_front or is_one and ":" not in it["address"],
                  f"access server {it['name']}: without FreeRADIUS it is one address of IPv4",
                  "address", "access_server", number)
-            can_slow = self.has_packages and it["vendor"] == "mikrotik" and is_one
+            can_slow = it["vendor"] == "mikrotik" and is_one
             need(can_slow or not it["coa"], f"access server {it['name']}: coa is for a mikrotik of "
-                 "one address, and needs packages = true", "coa", "access_server", number)
+                 "one address", "coa", "access_server", number)
         need(self.has_front or ":" not in self.server,
              "without FreeRADIUS `server` is an address of IPv4", "server")
         need(self.has_front or self.server or not self.access_servers,
@@ -256,8 +255,6 @@ class Answers:
         both = [self.pair[name] for name in ("own", "other")] if self.pair else ["own", "other"]
         need(both[0] != both[1], "[pair]: both machines have one address", "other", "pair")
         need(":" not in "".join(both), "[pair]: own and other are addresses of IPv4", "own", "pair")
-        need(not (self.pair and it["packages"]), "`packages` is not for a pair of machines",
-             "packages")
         for each in self.operators:
             need(each in self.cashiers, f"operators: {each!r} is none of `cashiers`", "operators")
 

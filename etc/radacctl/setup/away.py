@@ -10,19 +10,16 @@ import time
 
 from radacctl import files, freeradius, site
 from radacctl.doctor import front as counts
-from radacctl.setup import front, packages, sql, steps
+from radacctl.setup import front, sql, steps
 from radacctl.setup.steps import File, Fresh
 
 # How long the queue may take until it is empty, in seconds.
 PATIENCE = 600
 LEFT = (f"{site.RADACCT}/radacctd*", "/var/lib/radacctd-front", "/var/lib/radacctd-sql",
         f"{site.RADDB}/*~before-*")
-# What starts the minute's work of packages; and what goes last.
-TIMER = f"/etc/systemd/system/timers.target.wants/{packages.UNIT}"
-LAST = (TIMER, packages.DROP_IN)
 # The site's access servers, in FreeRADIUS' folder itself.
 CLIENTS = "access-servers.conf"
-SETTINGS = ("settings.conf", "pair.conf", "packages.conf")
+SETTINGS = ("settings.conf", "pair.conf")
 
 
 class Gone(File):
@@ -55,7 +52,7 @@ class Gone(File):
 
 def lines_out(text):
     """Virtual servers without radacctd's lines. What a set-up made a comment is a line again."""
-    lines = rf"(?m)^[ \t]*radacctd_(?:accounting|login|packages\w*){freeradius.REST}\n"
+    lines = rf"(?m)^[ \t]*radacctd_(?:accounting|login){freeradius.REST}\n"
     text = re.sub(lines, "", text)
     text = re.sub(r"(?m)^(\s*)radacctd_filter\b", r"\1filter_username", text)
     return freeradius.with_line(text, "-?sql|detail")
@@ -106,7 +103,7 @@ def servers():
 def rest():
     """All other files of FreeRADIUS' folder: what names another one goes before that."""
     raddb, folder = freeradius.path, freeradius.path("radacctd")
-    places = [*freeradius.OURS, *packages.OURS, "sites-enabled/radacctd-pair"]
+    places = [*freeradius.OURS, "sites-enabled/radacctd-pair"]
     for kind in ("sites-enabled", "policy.d", "mods-enabled"):
         yield from (Gone(raddb(it)) for it in places if it.startswith(kind))
     if os.path.isdir(folder):
@@ -126,7 +123,7 @@ def units():
 def listed():
     """What is to be done, a line each; none if nothing is left, as after a run that was killed."""
     found = [it.text() for it in (*servers(), *rest()) if not it.is_done()]
-    last = [f"stop and remove {it}" for it in [*units(), *LAST] if os.path.lexists(it)]
+    last = [f"stop and remove {it}" for it in units() if os.path.lexists(it)]
     between = ["wait until radacctd has all queued reports", "restart FreeRADIUS twice"]
     return [*found, *between, *last] if found or last else []
 
@@ -176,16 +173,13 @@ def remove():
 
 
 def stop_units():
-    if os.path.lexists(TIMER):
-        # It reads the mirror, which goes now.
-        steps.given(["systemctl", "disable", "--now", packages.UNIT])
     # systemd has no such service but while its timer starts it.
     names = [os.path.basename(it) for it in units()
              if os.path.lexists(it) and not it.endswith("radacctd-clock.service")]
     # `disable` removes a link, and a timer without its file has failed: so it is stopped before.
     for act in ("stop", "disable") if names else ():
         steps.given(["systemctl", act, *names])
-    for it in (*units(), packages.DROP_IN):
+    for it in units():
         if os.path.lexists(it):
             Gone(it).do()
     steps.given(["systemctl", "daemon-reload"])

@@ -9,7 +9,7 @@ import secrets
 
 from radacctl import files, freeradius, site
 from radacctl.doctor import look
-from radacctl.setup import packages, pair, sql, steps
+from radacctl.setup import pair, sql, steps
 from radacctl.setup.alone import Command, File, Folder, secret, unit
 from radacctl.setup.answers import OTHERS_SECRET
 from radacctl.setup.steps import Fresh, Link, Trial
@@ -76,8 +76,6 @@ def of(answers, config):
     yield running(tried.steps)
     yield from map(unit, ("radacctd-mirror.service", "radacctd-front.service",
                           "radacctd-clock.timer", "freeradius.service"))
-    if answers.has_packages:
-        yield unit(packages.UNIT)
     if answers.sql:
         yield from sql.after(answers)
 
@@ -126,8 +124,6 @@ def parts(answers, config):
         yield Folder(site.RADACCT + name, 0o700, site.RADIUS_USER, site.RADIUS_USER)
     if answers.pair:
         yield from pair.in_front(answers, config)
-    if answers.has_packages:
-        yield from packages.of(answers)
 
 
 def outer(answers):
@@ -345,7 +341,6 @@ def secret_of(name, address=None):
 def main(old, answers):
     """radiusd.conf with the files of the site, before its modules."""
     wanted = INCLUDES + ("$INCLUDE radacctd/pair.conf\n" if answers.pair else "")
-    wanted += packages.INCLUDE if answers.has_packages else ""
     # Twice the same would be a fault.
     known = freeradius.own_included(freeradius.without_comments(there(old, "radiusd.conf")))
     lacks = [it for it in wanted.splitlines(True) if it.strip().rpartition("/")[2] not in known]
@@ -378,8 +373,7 @@ def sold(text, answers, is_new):
         text = freeradius.without_line(text, "accounting", "detail")
     if answers.sql:
         text = sql.with_sql(text) if answers.sql["accounting"] else sql.without_sql(text)
-    text = with_login(steps.begun(text, "accounting", "radacctd_accounting"), is_new)
-    return packages.default(text) if answers.has_packages else text
+    return with_login(steps.begun(text, "accounting", "radacctd_accounting"), is_new)
 
 
 def inner(old, answers, path=None):
@@ -388,8 +382,7 @@ def inner(old, answers, path=None):
     has_filter = [is_debians(it, files.text(it)) or "radacctd_filter" in files.text(it)
                   for it in outer(answers)]
     is_new = is_debians(path, text) and all(has_filter)
-    change = lambda it: (packages.inner if answers.has_packages else str)(with_login(it, is_new))
-    return freeradius.with_servers(text, change, "post-auth")
+    return freeradius.with_servers(text, lambda it: with_login(it, is_new), "post-auth")
 
 
 def is_debians(path, text, package="freeradius-config"):
@@ -424,8 +417,8 @@ def running(inside):
     """FreeRADIUS runs with the files as they are, which it has tested."""
     others = ("radacctd/balances-mirror", "radacctd/front-counts")
     names = [it for it in freeradius.OURS if it not in others]
-    names += [f"radacctd/{it}" for it in (*freeradius.SETTINGS, "pair.conf", "packages.conf")]
-    names += [*packages.OURS, "sites-enabled/radacctd-pair", "mods-enabled/sql"]
+    names += [f"radacctd/{it}" for it in (*freeradius.SETTINGS, "pair.conf")]
+    names += ["sites-enabled/radacctd-pair", "mods-enabled/sql"]
     paths = [*map(freeradius.path, names), *(it.path for it in inside if isinstance(it, File))]
     return Fresh("test FreeRADIUS' configuration, and restart it", "freeradius.service", paths,
                  freeradius.test())

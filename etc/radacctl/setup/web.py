@@ -15,8 +15,6 @@ from radacctl.setup.front import is_debians
 from radacctl.setup.steps import Fresh, Step, Trial
 
 PACKAGES = ["nginx", "openssl", *features.listed("PACKAGES")]
-# What packages' sheets of codes, and cards, need.
-SHEETS = ["qrencode", "python3-reportlab", "fonts-dejavu-core"]
 CERTIFICATE, PRIVATE_KEY = "/etc/ssl/radacctd.pem", "/etc/ssl/private/radacctd.key"
 PASSWORDS = f"{NOTES}/cashiers.txt"
 TEST = ("nginx", "-t")
