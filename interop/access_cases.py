@@ -13,7 +13,7 @@ import socket
 import time
 
 from access_dictionary import Dictionary, octets
-from front_parts import attribute
+from front import attribute
 
 FOLDER = os.path.join(os.path.dirname(os.path.abspath(__file__)), "access_servers")
 STATUSES = {"start": 1, "stop": 2, "interim": 3, "on": 7, "off": 8, "tunnel-start": 9}

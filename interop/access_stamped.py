@@ -7,7 +7,6 @@ import os
 
 import access_targets
 import front
-import front_stock
 from access_cases import CLASS, USER
 from front import SECRET
 
@@ -96,7 +95,7 @@ class Proxied(Logins, access_targets.Debian):
 
     def ports(self):
         """Takes reports, and passes them on."""
-        front_stock.without_listen(self.raddb)
+        front.without_listen(self.raddb)
         text = SERVER.format(port=self.port)
         for name, (place, _) in self.realms.items():
             text += REALM.format(name=name, place=place, port=self.book.radius,

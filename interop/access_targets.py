@@ -1,5 +1,5 @@
-"""Where interop/access-servers sends its cases, and what became of them there: radacctd alone,
-radacctd behind FreeRADIUS with the files of etc/freeradius, FreeRADIUS' own SQL.
+"""Where interop/access-servers sends its cases, and what became of them there: radacctd alone, and
+FreeRADIUS' own SQL.
 """
 
 import contextlib
@@ -9,19 +9,16 @@ import io
 import os
 import re
 import socket
-import sqlite3
 import subprocess
 import urllib.parse
 
 import front
-import front_stock
 import old_memory
 from access_cases import CLASS, USER, Charge, Packet, address, bare, pairs_of
-from front import KILL, LISTEN, SECRET, check
-from front_parts import attribute, count_in
-from promise_model import octets
+from front import KILL, LISTEN, SECRET, attribute, check
 
 MEBIBYTE = 1 << 20
+octets = urllib.parse.unquote_to_bytes
 # Class, block, unit and what is counted.
 PLANS = [("gold", MEBIBYTE, 1, "both"), ("silver", MEBIBYTE, 2, "both"),
          ("default", MEBIBYTE, 1000, "both"), ("up", MEBIBYTE, 3, "in"),
@@ -225,13 +222,13 @@ class Debian(Target):
         self.log, self.process = os.path.join(folder, "out"), None
         for name in ("log", "run", "log/radacct"):
             os.makedirs(os.path.join(folder, name), exist_ok=True)
-        front_stock.moved(self)
+        front.moved(self)
         self.ports()
         front.written(os.path.join(raddb, "mods-config/files/authorize"), USERS)
 
     def ports(self):
         """Listens at its own ports alone."""
-        front_stock.without_listen(self.raddb)
+        front.without_listen(self.raddb)
         listens = ""
         for kind, port in (("auth", self.auth), ("acct", self.port)):
             listen = LISTEN.format(kind=kind, family="ipaddr", address="127.0.0.1", port=port)
@@ -270,82 +267,10 @@ class Debian(Target):
 def debians(folder):
     """A copy of Debian's configuration."""
     raddb = os.path.join(folder, "raddb")
-    subprocess.run(["cp", "-a", front_stock.STOCK, raddb], check=True)
-    stock = f"raddbdir = {front_stock.STOCK}"
-    front_stock.edited(raddb, "radiusd.conf", stock, f"raddbdir = {raddb}")
+    subprocess.run(["cp", "-a", front.STOCK, raddb], check=True)
+    stock = f"raddbdir = {front.STOCK}"
+    front.edited(raddb, "radiusd.conf", stock, f"raddbdir = {raddb}")
     return raddb
-
-
-class Files(Debian):
-    """radacctd behind FreeRADIUS, by the steps of docs/FREERADIUS.md."""
-
-    name = "behind FreeRADIUS"
-
-    def __init__(self, folder, cases):
-        self.cases = cases
-        self.book = Book(folder, [("front", "127.0.0.1", front.BOOK_SECRET, "")])
-        super().__init__(folder, front_stock.debians_own(folder))
-        self.queue = os.path.join(folder, "log/radacct/radacctd")
-        self.unsent = self.queue + "-unsent"
-        for path in (self.queue, self.unsent):
-            os.makedirs(path)
-        self.clients()
-        self.mirror()
-        self.book.start()
-        self.start()
-
-    def clients(self):
-        """The sample's client for all, and one for each access server that has settings."""
-        path = os.path.join(self.raddb, "radacctd/access-servers.conf")
-        with open(path, encoding="utf-8") as file:
-            text = file.read().replace("10.0.0.0/16", "127.0.0.0/8")
-        text = text.replace("10.0.0.1", "127.3.0.1").replace("change-me-access-points", SECRET)
-        for case in self.cases:
-            settings = [it for it in case.client if it.startswith("radacctd_")]
-            if settings:
-                own = {"ipaddr": case.source(), "secret": SECRET, "radacctd_stamp": "name"}
-                own |= dict(it.split("=") for it in settings)
-                lines = "".join(f"\t{name} = {value}\n" for name, value in own.items())
-                text += f"client case-{case.number} {{\n{lines}}}\n"
-        front.written(path, text.replace("radacctd_cut = yes", "radacctd_cut = no"))
-
-    def mirror(self):
-        """Balances of all that log in, and the settings."""
-        names = {it.account(name) for it in self.cases for name in ("al", "bo", it.logs_in())}
-        paths = [os.path.join(self.folder, it) for it in ("sold.csv", "planned.csv", "mirror.db")]
-        balances, plans, mirror = paths
-        names = sorted(urllib.parse.quote(it) for it in names)
-        text = "".join(f"{name},1000000000,0\n" for name in names)
-        front.written(balances, "account,balance,overrun\n" + text)
-        text = "".join(",".join(map(str, it)) + "\n" for it in PLANS)
-        front.written(plans, "class,block,unit,count\n" + text)
-        words = [os.path.join(front.FILES, "balances-mirror"), balances, plans, mirror]
-        subprocess.run(words, check=True)
-        path = os.path.join(self.raddb, "radacctd/settings.conf")
-        with open(path, encoding="utf-8") as file:
-            text = file.read()
-        for name, value in (
-            ("mirror", mirror), ("port", self.book.radius), ("secret", front.BOOK_SECRET),
-            ("oldest", 86_400),
-        ):
-            text, found = re.subn(rf"(?m)^\t{name} = .*$", lambda _: f"\t{name} = {value}", text)
-            assert found == 1, name
-        front.written(path, text)
-
-    def settles(self):
-        front.waits_for("the queue is empty", lambda: count_in(self.queue), 0, 120)
-
-    def filed(self):
-        found = []
-        for path in front.files_in(self.unsent):
-            with open(path, encoding="latin-1") as file:
-                found += re.findall(r"\tNAS-IP-Address = (\S+)", file.read())
-        return found
-
-    def counted(self):
-        mark = "radacctd-device."
-        names = [it for it in os.listdir(os.path.join(self.folder, "run")) if it.startswith(mark)]
-        return {tuple(it.removeprefix(mark).split(".", 1)) for it in names}
 
 
 class Sql(Debian):
@@ -362,12 +287,12 @@ class Sql(Debian):
             ('filename = "/tmp/freeradius.db"', f'filename = "{self.database}"'),
             ("busy_timeout = 200", "busy_timeout = 10000"),
         ):
-            front_stock.edited(raddb, "mods-available/sql", one, other)
+            front.edited(raddb, "mods-available/sql", one, other)
         os.symlink("../mods-available/sql", os.path.join(raddb, "mods-enabled/sql"))
         # As the file itself says to keep the Class.
         for name in ("column_name", "packet_xlat", "reply_xlat"):
             path = "mods-config/sql/main/sqlite/queries.conf"
-            front_stock.edited(raddb, path, f"\t{name} =\t# ", f"\t{name} = ")
+            front.edited(raddb, path, f"\t{name} =\t# ", f"\t{name} = ")
         text = f"client all {{\n\tipaddr = 127.0.0.0/8\n\tsecret = {SECRET}\n}}\n"
         front.written(os.path.join(raddb, "clients.conf"), text)
         self.start()

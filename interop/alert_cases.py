@@ -151,7 +151,7 @@ b radacctd_config_is_current 1x9 0x7 1x42
 # one that failed once and was mended.
 units that have failed
 a node_systemd_unit_state{name="radacctd-key.service",state="failed"} 0x60 1x59
-a node_systemd_unit_state{name="radacctd-compare.service",state="failed"} 0x80 1x2 0 1x3 0 1x32
+a node_systemd_unit_state{name="radacctd-minute.service",state="failed"} 0x80 1x2 0 1x3 0 1x32
 a node_systemd_unit_state{name="radacctd-forward.service",state="failed"} 0x30 1x1 0x88
 a node_systemd_unit_state{name="other.service",state="failed"} 1x120
 59m
@@ -201,89 +201,12 @@ d node_filesystem_avail_bytes{job="n",mountpoint="/"} 100000x60
 14m
 20m a:DiskNearlyFull b:DiskNearlyFull
 
-# An access server that was cured after its third report, one whose octets go on to wrap, and one
-# that was cured as FreeRADIUS restarted, and whose octets wrap again two days later.
-5m octets that wrapped
-a radacctd_device_wrapped_reports{address="10.0.0.1"} _x12 1 2 3x580
-b radacctd_device_wrapped_reports{address="10.0.0.1"} _x12 1+0.01x580
-c radacctd_device_wrapped_reports{address="10.0.0.1"} 5x12 stale _x566 1x20
-70m a:OctetsWrapped b:OctetsWrapped
-22h a:OctetsWrapped b:OctetsWrapped
-33h b:OctetsWrapped
-49h b:OctetsWrapped c:OctetsWrapped
-
-# All logins of the first access server are reported, those of the second no longer from minute 60 on,
-# and those of the third never were. The fourth has been quiet, and the fifth reports only the ends.
-5m logins that nobody reports
-a radacctd_device_login_time_seconds{address="10.0.0.1"} 300+300x100
-a radacctd_device_report_time_seconds{address="10.0.0.1"} 301+300x100
-b radacctd_device_login_time_seconds{address="10.0.0.2"} 300+300x100
-b radacctd_device_report_time_seconds{address="10.0.0.2"} 301+300x11 3601x89
-c radacctd_device_login_time_seconds{address="10.0.0.3"} 300+300x100
-d radacctd_device_login_time_seconds{address="10.0.0.4"} 300x100
-d radacctd_device_report_time_seconds{address="10.0.0.4"} 301x100
-e radacctd_device_login_time_seconds{address="10.0.0.5"} 300x50 15000x50
-e radacctd_device_report_time_seconds{address="10.0.0.5"} 1800x52 15600x48
-50m
-70m c:LoginsNotReported
-170m c:LoginsNotReported
-190m b:LoginsNotReported c:LoginsNotReported
-8h b:LoginsNotReported c:LoginsNotReported
-
-# Server a is well: a few reports wait for a few seconds. On b each thing is wrong from minute 10
-# on. Server c has no front-counts, and d's file is old from minute 10 on; e's is gone then. On f
-# FreeRADIUS ends then, and a report was queued while the clock was an hour ahead. On g reports wait
-# from minute 10 on while radacctd writes balances, and on h nobody knows since when.
-FreeRADIUS' queue, its disk and the mirror
-c radacctd_start_time_seconds 1x60
-a node_textfile_mtime_seconds{file="/n/radacctd-front.prom"} 0+60x60
-a radacctd_front_time_seconds 0+60x60
-a radacctd_queue_state{state="fault"} 0x60
-a radacctd_queue_state{state="clock"} 0x60
-a radacctd_queue_state{state="undated"} 0x60
-a radacctd_queue_state{state="volatile"} 0x60
-a radacctd_queue_state{state="cut"} 0x60
-# A moment of 0 is an empty queue.
-a radacctd_queue_oldest_time_seconds{queue="radacctd"} 0x30 1780+60x30
-a radacctd_queue_free_octets{queue="radacctd"} 2e9x60
-a radacctd_queue_free_inodes{queue="radacctd"} 2e6x60
-a radacctd_unsent_reports{folder="radacctd-unsent"} 0x60
-a radacctd_mirror_is_readable 1x60
-a radacctd_mirror_balances_time_seconds -10+60x60
-a radacctd_mirror_as_of_time_seconds -90+60x60
-a radacctd_mirror_made_anew 3x60
-b node_textfile_mtime_seconds{file="/n/radacctd-front.prom"} 0+60x60
-b radacctd_queue_state{state="fault"} 0x10 1x49
-b radacctd_queue_state{state="undated"} 0x10 1x49
-b radacctd_queue_state{state="volatile"} 0x10 1x49
-b radacctd_queue_state{state="cut"} 0x10 1x49
-b radacctd_queue_oldest_time_seconds{queue="radacctd-other"} 0x10 600x49
-b radacctd_queue_free_octets{queue="radacctd"} 1e9x60
-b radacctd_queue_free_inodes{queue="radacctd"} 2e6x60
-b radacctd_unsent_reports{folder="radacctd-unsent"} 0x10 2x49
-b radacctd_device_wrapped_reports{address="10.0.0.1"} _x10 3x49
-b radacctd_device_default_sessions{address="10.0.0.1"} _x10 3x49
-b radacctd_mirror_is_readable 1x10 0x49
-b radacctd_mirror_made_anew 0x10 1x49
-# A clock that was ahead, or is behind now.
-b radacctd_mirror_balances_time_seconds 0+60x10 99999x49
-d node_textfile_mtime_seconds{file="/n/radacctd-front.prom"} 0+60x10 600x49
-e radacctd_front_time_seconds 0+60x10 stale
-f radacctd_front_time_seconds 0+60x60
-f node_systemd_unit_state{name="freeradius.service",state="active"} 1x10 0x49
-a node_systemd_unit_state{name="freeradius.service",state="active"} 1x30 0 1x29
-c node_systemd_unit_state{name="freeradius.service",state="active"} 0x60
-f radacctd_queue_oldest_time_seconds{queue="radacctd"} 0x10 4200x49
-g radacctd_mirror_balances_time_seconds -10+60x60
-g radacctd_mirror_as_of_time_seconds -10+60x10 600x49
-h radacctd_mirror_balances_time_seconds -10+60x60
-h radacctd_mirror_as_of_time_seconds -10+60x10 0x49
-9m b:QueueDiskNearlyFull
-12m b:MirrorMadeAnew b:MirrorOld b:MirrorUnreadable b:NobodyCutOff b:OctetsWrapped \\
-    b:QueueDiskNearlyFull b:QueueNotWritten b:ReportsFiled h:MirrorOld
-40m b:MirrorMadeAnew b:MirrorOld b:MirrorUnreadable b:NobodyCutOff b:OctetsWrapped \\
-    b:QueueDiskNearlyFull b:QueueNotWritten b:ReportsFiled b:QueueClock b:QueueNotDurable \\
-    b:QueueWaits d:FrontStale e:FrontStale f:FrontDown f:QueueWaits g:MirrorOld h:MirrorOld
+# On f FreeRADIUS ends at minute 10 and stays so, on a for a minute.
+FreeRADIUS in front
+f node_systemd_unit_state{name="radacctd-front.service",state="active"} 1x10 0x49
+a node_systemd_unit_state{name="radacctd-front.service",state="active"} 1x30 0 1x29
+9m
+40m f:FrontDown
 
 # On a all is well, but one warning of an hour. Of b it found something each time. On c its timer
 # has ended at minute 60, on d its file went, and on e a side of the site could not be seen.
@@ -297,10 +220,8 @@ a radacctd_doctor_fault{name="unit-down",gravity="critical"} 0x400
 a radacctd_doctor_unseen 0x400
 b radacctd_doctor_fault{name="copy-old",gravity="warning"} 2x400
 b radacctd_doctor_fault{name="unit-down",gravity="critical"} 0x60 1x340
-# These have alerts of their own.
+# That has an alert of its own.
 b radacctd_doctor_fault{name="book-away",gravity="critical"} 1x400
-b radacctd_doctor_fault{name="queue-waits",gravity="critical"} 1x400
-b radacctd_doctor_fault{name="unsent",gravity="warning"} 1x400
 c radacctd_doctor_time_seconds 0x60 3600x340
 d radacctd_doctor_time_seconds 0x60 stale
 e radacctd_doctor_time_seconds 0+60x400

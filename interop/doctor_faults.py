@@ -5,23 +5,18 @@ Where nothing else would do, a row says how it feigns: a fault that would take a
 """
 
 RADDB = "/etc/freeradius/3.0"
-QUEUE = "/var/log/freeradius/radacct/radacctd"
-UNSENT = "/var/log/freeradius/radacct/radacctd-unsent"
-SQL = f"{RADDB}/mods-enabled/sql"
-EAP = f"{RADDB}/mods-available/eap"
-DEVICES = f"{RADDB}/policy.d/radacctd-devices"
+FRONT, KEPT = "/etc/radacctd-front", "/var/lib/radacctd-front"
+SETTINGS, CERTIFICATE = f"{FRONT}/settings.conf", f"{FRONT}/certs/server.pem"
 CONFIG, COPIES = "/etc/radacctd.toml", "/var/backups/radacctd"
 # A test that goes on over midnight has a copy of both days.
 LAST = f"$(ls -d {COPIES}/20* | tail -1)"
-MIRROR = "/run/radacctd-mirror/balances.db"
 PROGRAM = "/usr/local/libexec/radacctd/radacctd"
 # A report with a wrong secret, straight to radacctd.
 WRONG = "echo 'User-Name=a,Acct-Status-Type=Start,Acct-Session-Id=1"
 SENT = "radclient -r 1 -t 1 127.0.0.1:11813 acct wrong; journalctl --sync"
-# The same to FreeRADIUS, and its log without that.
-TO_FRONT = "radclient -r 1 -t 1 127.0.0.1 acct wrong"
-FORGET_FRONT = "truncate -s 0 /var/log/freeradius/radius.log"
-# A report that waits since 2023, as FreeRADIUS writes it.
+# The same to FreeRADIUS.
+TO_FRONT = "radclient -r 1 -t 1 127.0.0.1 acct wrong; journalctl --sync"
+# A report that waits since 2023, as FreeRADIUS writes it, in a file that it does not read.
 REPORT = "Tue Nov 14 22:13:20 2023\\n\\tUser-Name = \"al\"\\n\\tTimestamp = 1700000000\\n\\n"
 # The journal of the service without what a row has printed into it.
 FORGET = "journalctl --rotate; journalctl --vacuum-time=1s"
@@ -45,6 +40,12 @@ def piped(path):
     return f"mv {path} /root/kept; mkfifo {path}", f"rm {path}; mv /root/kept {path}"
 
 
+def waiting(folder):
+    """A report that waits in a folder of FreeRADIUS'."""
+    path = f"{KEPT}/{folder}/old"
+    return f"printf '{REPORT}' > {path}; chown -R freerad {KEPT}/{folder}", f"rm {path}"
+
+
 def printed(line):
     """A line in the journal of the service, as root may write it: a real one takes a full disk."""
     fields = f"MESSAGE={line}\\nOBJECT_SYSTEMD_UNIT=radacctd.service\\n"
@@ -56,25 +57,9 @@ def client(name, address, secret):
     return appended(lines)
 
 
-OUTBOX = """python3 -c '
-import http.server, json
-class Caller(http.server.BaseHTTPRequestHandler):
-    def do_GET(self):
-        said = {"alarms": ["V-7"], "waiting": {"own": 0, "other": 3}, "oldest": 1}
-        body = json.dumps(said).encode()
-        self.send_response(200); self.send_header("Content-Length", len(body)); self.end_headers()
-        self.wfile.write(body)
-http.server.HTTPServer(("127.0.0.1", 8067), Caller).serve_forever()'"""
-PAIR = "printf 'RADACCTD_OWN=127.0.0.1\\nRADACCTD_OTHER=127.0.0.1\\n' > /etc/default/radacctd-pair"
-UNPAIR = "rm -f /etc/default/radacctd-pair"
-COMPARE = "/run/systemd/system/radacctd-compare.service"
 KEYS = "for it in $(seq 4060); do printf '[[key]]\\ntoken = \"guest-key-%09d\"\\n' $it; "
 KEYS += f"echo 'account = \"g\"'; done >> {CONFIG}"
 FULL = f"mount -t tmpfs -o size=20m tmpfs {COPIES} && head -c 20800000 /dev/zero > {COPIES}/x"
-CERTIFICATE = "openssl req -x509 -key /etc/ssl/private/radacctd.key -days 5 -subj /CN=x -out "
-CERTIFICATE += f"{RADDB}/certs/new.pem 2>/dev/null; sed -i 's|certificate_file = /.*|"
-CERTIFICATE += f"certificate_file = ${{certdir}}/new.pem|' {EAP}"
-
 BOOK, SERVER = "/var/lib/radacctd/book", "$(systemctl show -P MainPID radacctd)"
 
 BREAKS = {
@@ -93,37 +78,24 @@ BREAKS = {
     "clock-wrong": (f"kill -STOP {SERVER}; touch -d tomorrow "
                     "/var/lib/radacctd-balances/balances.csv", f"kill -CONT {SERVER}; sleep 11"),
     "drop-secret": (f"{WRONG}' | {SENT}", FORGET),
-    "device-secret": (f"{WRONG}' | {TO_FRONT}", FORGET_FRONT),
-    "raddb-wrong": (f"echo 'server x {{' > {RADDB}/sites-enabled/zz",
-                    f"rm {RADDB}/sites-enabled/zz"),
-    "raddb-steps": edited("s/^\\tradacctd_accounting$//", f"{RADDB}/sites-available/default"),
-    "front-address": edited("s/port = 11813/port = 1813/", f"{RADDB}/radacctd/settings.conf"),
-    "front-secret": edited("s/secret = ./secret = x/", f"{RADDB}/radacctd/settings.conf"),
-    "queue-folder": (f"chown root {QUEUE}", f"chown freerad {QUEUE}"),
-    "queue-state": ("echo 'no space left' > /run/freeradius/radacctd-queue.fault",
-                    "rm /run/freeradius/radacctd-queue.fault"),
-    "queue-waits": (f"mkdir {QUEUE}/waits; printf '{REPORT}' > {QUEUE}/waits/detail-1; "
-                    f"chown -R freerad {QUEUE}/waits", f"rm -r {QUEUE}/waits"),
-    "mirror-missing": (f"systemctl stop radacctd-mirror; rm {MIRROR}*",
-                       "systemctl start radacctd-mirror"),
-    "mirror-plans": (f"systemctl stop radacctd-mirror; sqlite3 {MIRROR} 'UPDATE plan SET unit = 7'",
-                     "systemctl start radacctd-mirror"),
+    "device-secret": (f"{WRONG},Packet-Src-IP-Address=127.0.0.8' | {TO_FRONT}", FORGET),
+    "raddb-wrong": appended("\\nclient x {\\n", f"{FRONT}/clients.conf"),
+    "front-address": edited("s/book_port = 11813/book_port = 1813/", SETTINGS),
+    "front-secret": edited("s/book_secret = ./book_secret = x/", SETTINGS),
+    "front-key": edited("s/^\\tkey = ./\\tkey = x/", SETTINGS),
+    "reports-wait": waiting("waits"),
     "nginx-wrong": ("echo 'x y' > /etc/nginx/conf.d/zz.conf", "rm /etc/nginx/conf.d/zz.conf"),
     "pages-silent": ("systemctl stop radacctd-site.socket radacctd-site.service",
                      "systemctl start radacctd-site.socket"),
     "key-unknown": kept("/etc/radacctd-site.key", "echo other-key-00000001 > "
                         "/etc/radacctd-site.key"),
     "certificate-ended": kept("/etc/ssl/radacctd.pem", "rm /etc/ssl/radacctd.pem"),
-    "certificate-ends": kept(EAP, CERTIFICATE),
+    "certificate-ends": kept(CERTIFICATE, f"openssl req -x509 -key {FRONT}/certs/server.key -days 5 "
+                             f"-subj /CN=x -out {CERTIFICATE}"),
     "certificate-old": kept("/etc/ssl/radacctd.pem", "openssl req -x509 -days 300 -subj /CN=x "
                             "-key /etc/ssl/private/radacctd.key -out /etc/ssl/radacctd.pem"),
-    "pair-alarm": (f"{PAIR}; systemd-run --unit=feigned {OUTBOX}; sleep 2",
-                   f"systemctl stop feigned; {UNPAIR}"),
-    "pair-differs": (f"{PAIR}; printf '[Service]\\nType=oneshot\\nExecStart=/bin/false\\n' > "
-                     f"{COMPARE}; systemctl daemon-reload; systemctl start radacctd-compare",
-                     f"rm {COMPARE}; systemctl reset-failed radacctd-compare; "
-                     f"systemctl daemon-reload; {UNPAIR}"),
-    "pair-waits": (PAIR, UNPAIR),
+    "pair-waits": (f"touch {FRONT}/pair.conf; mkdir {KEPT}/other; {waiting('other')[0]}",
+                   f"rm -r {FRONT}/pair.conf {KEPT}/other"),
     "old-program": (f"cp -a {PROGRAM} {PROGRAM}.new; mv {PROGRAM}.new {PROGRAM}",
                     "systemctl restart radacctd"),
     "sample-value": appended('\\n[[key]]\\ntoken = "al-key-0000000001"\\naccount = "al"\\n'),
@@ -140,38 +112,24 @@ BREAKS = {
     "clock-unset": ("printf '#!/bin/sh\\necho NTP=no\\necho NTPSynchronized=no\\n' > /root/clock; "
                     "cp -a /usr/bin/timedatectl /root/kept; cat /root/clock > /usr/bin/timedatectl",
                     "cp -a /root/kept /usr/bin/timedatectl"),
-    "device-unknown": (f"{WRONG},Packet-Src-IP-Address=127.0.0.77' | {TO_FRONT}", FORGET_FRONT),
-    "file-old": (f"cp {DEVICES} /root/new; rm {DEVICES}; (cat /root/new; echo '# old') > {DEVICES}",
-                 f"ln -sf /usr/local/share/radacctd/freeradius/devices {DEVICES}"),
-    "tunnel-login": edited("s/^\\tradacctd_login$//", f"{RADDB}/sites-available/inner-tunnel"),
-    "names-refused": (f"cp -a {RADDB}/sites-available/default /root/kept; "
-                      f"sed 's/radacctd_filter/filter_username/' /root/kept > "
-                      f"{RADDB}/sites-available/default; "
-                      "printf 'voucher,account,sum\\nR-12,room 12,5\\n' | radacctl sell; sleep 11",
-                      f"cp -a --remove-destination /root/kept {RADDB}/sites-available/default"),
-    "status-check": appended("\\nhome_server x {\\n\\ttype = acct\\n\\tipaddr = 127.0.0.1\\n"
-                             "\\tport = 11813\\n\\tsecret = x\\n"
-                             "\\tstatus_check = status-server\\n}\\n", f"{RADDB}/proxy.conf"),
-    "counts-old": ("systemctl stop radacctd-front; touch -d '1 hour ago' "
-                   "/var/lib/radacctd-front/radacctd-front.prom", "systemctl start radacctd-front"),
-    "unsent": (f"printf '{REPORT}' > {UNSENT}/detail-1; chown freerad {UNSENT}/detail-1",
-               f"rm {UNSENT}/detail-1"),
+    "device-unknown": (f"{WRONG},Packet-Src-IP-Address=127.0.0.77' | {TO_FRONT}", FORGET),
+    "file-old": appended("# old\\n", f"{FRONT}/policy"),
+    "reports-aside": waiting("aside"),
     "pages-settings": kept("/etc/radacctd-web/settings.json",
                            "echo '{}' > /etc/radacctd-web/settings.json"),
     "copy-old": (f"touch -d '2 days ago' {COPIES}/20*", f"touch {COPIES}/20*"),
     "copy-bad": (f"cp -a {LAST}/site.tar.gz /root/kept; truncate -s 1000 {LAST}/site.tar.gz",
                  f"cp -a /root/kept {LAST}/site.tar.gz"),
     # It is no right file for FreeRADIUS, either: another line says so.
-    "copy-sql": (f"(echo 'sql {{'; echo 'dialect = \"postgresql\"'; echo '}}') > {SQL}",
-                 f"rm {SQL}"),
+    "copy-sql": appended('dialect = \\"postgresql\\"\\n', f"{FRONT}/users.conf"),
     "copy-exports": (f"mv {COPIES}/exports /root/", f"mv /root/exports {COPIES}/"),
 }
 # What the doctor cannot look at, by the side that it names: each is no sound site. A pipe in the
 # place of a file would hold who opens it.
 UNSEEN = {
     "the configuration": piped("/etc/default/radacctd"),
-    "FreeRADIUS": piped(f"{RADDB}/mods-enabled/eap"),
+    "front": piped(f"{FRONT}/clients.conf"),
     "the pages": ("mv /usr/bin/openssl /root/", "mv /root/openssl /usr/bin/"),
 }
-# The server stops for so long that balances grow old, at radacctd and at logins.
-STOPPED = (("balances-old", "mirror-old"), f"kill -STOP {SERVER}", f"kill -CONT {SERVER}", 130)
+# The server stops for so long that balances grow old.
+STOPPED = (("balances-old",), f"kill -STOP {SERVER}", f"kill -CONT {SERVER}", 130)

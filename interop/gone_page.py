@@ -4,30 +4,27 @@ import os
 import re
 import shutil
 
-import desk_page
-import pair_page
+import page_steps
 import redeeming
+import start_site
 from front import ROOT, waits_for
-from pair_page import CASHIER, RADDB, replaced
 from served import check
 from service import BALANCES, BOOK, CONFIG, until
 
 PAGE = os.path.join(ROOT, "docs", "GONE.md")
-SITE_KEY, URL = "site-key-000000001", "https://localhost"
-SITE = pair_page.SITE + f'[[key]]\ntoken = "{SITE_KEY}"\ncashier = true\n'
-# A user who may log in, and what FreeRADIUS is to do then.
-USER = 'al Cleartext-Password := "al-pass"\n'
-LOGIN = '\npost-auth {\n\tupdate reply {\n\t\t&Class = "gold"\n\t}\n\tradacctd_login\n'
-PAIR = "RADACCTD_OWN=127.0.0.1\nRADACCTD_OTHER=127.0.0.1\n"
+FRONT, HOST = start_site.FRONT, start_site.HOST
+URL, RESOLVED = f"https://{HOST}", ("--resolve", f"{HOST}:443:127.0.0.1")
+# A user who may log in.
+USER = ("INSERT INTO radcheck (username, attribute, op, value) VALUES "
+        "('al', 'Cleartext-Password', ':=', 'al-pass')")
+BLOCK = 10_000_000
 # What a site has in files of its own, which must be as it was, with owner and rights.
-FILES = [CONFIG, "/etc/default/radacctd", "/etc/default/radacctd-pair", "/etc/radacctd-site.key"]
-FILES += ["/etc/radacctd-cashier.key", "/etc/radacctd-books.secret", "/etc/radacctd-web/*.json"]
-FILES += ["/etc/nginx/conf.d/*"]
-FILES += [f"{RADDB}/radacctd/*", f"{RADDB}/radiusd.conf", f"{RADDB}/sites-enabled/*"]
-FILES += [f"{RADDB}/mods-enabled/radacctd", desk_page.CERTIFICATE, desk_page.PRIVATE_KEY]
-FILES += ["/etc/systemd/system/radacctd*.service", "/var/lib/radacctd-books/*"]
-UNITS = ["radacctd", "radacctd-mirror", "radacctd-site.socket", "radacctd-outbox", "freeradius"]
-UNITS += ["nginx", "radacctd-nightly.timer", "radacctd-key.timer"]
+FILES = [CONFIG, "/etc/default/radacctd", "/etc/radacctd-*.key", "/etc/radacctd-books.secret"]
+FILES += ["/etc/radacctd-web/*.json", "/etc/nginx/conf.d/*"]
+FILES += [f"{FRONT}/*", f"{FRONT}/certs/*", f"{FRONT}/secrets/*", "/etc/ssl/radacctd.pem"]
+FILES += ["/etc/ssl/private/radacctd.key", "/var/lib/radacctd-books/*"]
+UNITS = ["radacctd", "radacctd-front", "radacctd-cut", "radacctd-site.socket", "nginx"]
+UNITS += ["radacctd-nightly.timer", "radacctd-key.timer", "radacctd-minute.timer"]
 
 
 def titled(box, title):
@@ -43,18 +40,34 @@ class Asking:
 
     def web(self, path, *more):
         """The status and the body that nginx gave."""
-        words = ["curl", "-sk", "-m", "30", "-w", "\n%{http_code}", *more, URL + path]
+        words = ["curl", "-sk", "-m", "30", "-w", "\n%{http_code}", *RESOLVED, *more, URL + path]
         text, status = self.box.beside(words)[1].rsplit("\n", 1)
         return int(status), text
 
     def redeem(self, account, code):
-        return redeeming.redeem(self.box.beside, URL, account, code)
+        return redeeming.redeem(self.box.beside, URL, account, code, *RESOLVED)
+
+    def asked(self, port, act, *lines):
+        """What FreeRADIUS says to the set-up's own client."""
+        text = self.box.must(f"cat {FRONT}/clients.conf")
+        secret = re.search(r"client radacctd-setup \{\n.*\n\tsecret = (\S+)", text)[1]
+        text = ",".join([*lines, "Packet-Src-IP-Address=127.0.0.8"])
+        return self.box.run(f"echo '{text}' | radclient -r 3 -t 5 -x 127.0.0.1:{port} {act} {secret}")[1]
+
+    def login(self):
+        return self.asked(1812, "auth", "User-Name=al", "User-Password=al-pass")
 
     def may_log_in(self):
         """Whether FreeRADIUS accepts a login."""
-        text = 'User-Name = "al"\\nUser-Password = "al-pass"\\n'.replace('"', '\\"')
-        command = f'printf "{text}" | radclient -r 3 -t 5 127.0.0.1:1812 auth testing-123'
-        return "Received Access-Accept" in self.box.run(command)[1]
+        return "Received Access-Accept" in self.login()
+
+    def report(self, blocks):
+        """Whether a report of a session is answered."""
+        given = re.search(r"Class = (0x[0-9a-f]+)", self.login())
+        said = self.asked(1813, "acct", "User-Name=al", "Acct-Session-Id=S-1",
+                          "Acct-Status-Type=Stop", f"Class={given[1] if given else '0x00'}",
+                          f"Acct-Input-Octets={blocks * BLOCK}")
+        return "Received Accounting-Response" in said
 
     def exports(self):
         """All that the book has, as its exports."""
@@ -78,23 +91,14 @@ class Asking:
         found["persons"] = box.must("radacctl person list")
         found["keys"] = box.must("radacctl key list")
         found["debits"] = box.must("radacctl debit --list")
-        found["outbox"] = self.outbox("--list")
         found["groups"] = sorted(box.must("getent group radacctd-balances").strip()
                                  .rsplit(":", 1)[1].split(","))
         found["units"] = [box.run(f"systemctl is-active {it}")[1].strip() for it in UNITS]
         found["enabled"] = [box.run(f"systemctl is-enabled {it}")[1].strip() for it in UNITS]
         found["pages"] = [self.web(it)[0] for it in ("/", "/desk/", "/redeem/")]
-        found["sales"] = box.must("radacctl sales --first 2020-01-01 --csv")
         found["guest"] = " left" in self.web("/", "-H", f"Cookie: __Host-guest={self.key}")[1]
         found["login"] = self.may_log_in()
         return found
-
-    def outbox(self, words):
-        tool = "/usr/local/sbin/radacctd-outbox"
-        database = "/var/lib/private/radacctd-outbox/outbox.db"
-        rows = "select voucher, account, sum, own, other from sale order by id"
-        told = self.box.run(f"{tool} --db {database} {words}")
-        return told, self.box.run(f"sqlite3 {database} '{rows}'")
 
 
 class Lost(Asking):
@@ -105,41 +109,12 @@ class Lost(Asking):
         self.sheets, self.codes, self.key = [], [], ""
 
     def set_up(self, staged):
-        """A site by the pages of INSTALL, FREERADIUS, DESK and PAIR."""
+        """A site by one command."""
         box = self.box
-        pair_page.install(box, staged, SITE)
-        box.must("echo RADACCTD_RADIUS_PORT=11813 >> /etc/default/radacctd")
-        box.must(f"radacctd init --config {CONFIG} --db {BOOK}")
-        box.must("systemctl enable --now radacctd 2>&1")
-        pair_page.install_freeradius(box)
-        replaced(box, f"{RADDB}/sites-available/default", ("\npost-auth {\n", LOGIN))
-        path = f"{RADDB}/mods-config/files/authorize"
-        box.must(f"printf '%s' '{USER}' | cat - {path} > /tmp/new && cat /tmp/new > {path}")
-        status = box.run("systemctl enable --now freeradius")[0]
-        check("FreeRADIUS starts", status, 0)
-        if status:
-            print(box.run("runuser -P -u freerad -- freeradius -CX | tail -5; "
-                          "journalctl -u freeradius -n 9 -o cat")[1])
-        desk_page.put_store(box, SITE_KEY)
-        desk_page.put_proxy(box)
-        box.must(f"sed -i 's|\"url\": \"\"|\"url\": \"{URL}\"|' /etc/radacctd-web/settings.json")
-        box.must("systemctl restart nginx; systemctl enable nginx 2>&1")
-        self.set_up_pair()
-        keys = f"{CASHIER}\n{SITE_KEY}"
-        for name, text in (("books.secret", "books-secret"), ("cashier.key", keys)):
-            box.write(f"/etc/radacctd-{name}", text + "\n", 0o600)
-        timers = "radacctd-nightly.timer radacctd-key.timer radacctd-outbox"
-        box.must(f"systemctl enable --now {timers} 2>&1")
+        start_site.prepare(box, staged)
+        start_site.set_up(box)
+        box.must(f'runuser -u radacctd-site -- sqlite3 /var/lib/radacctd-site/users.db "{USER}"')
         waits_for("all units run", lambda: box.run("systemctl --failed -q --no-legend")[1], "", 60)
-
-    def set_up_pair(self):
-        box = self.box
-        shared = "/usr/local/share/radacctd/pair"
-        box.must(f"install -m 755 {shared}/radacctd-outbox /usr/local/sbin/")
-        box.must(f"install -m 644 {shared}/radacctd-outbox.service /etc/systemd/system/")
-        box.write("/etc/default/radacctd-pair", PAIR)
-        box.write("/etc/radacctd-cashier.key", CASHIER + "\n", 0o600)
-        box.must("systemctl daemon-reload")
 
     def use(self):
         """Sales, reports, codes, keys and debits."""
@@ -147,9 +122,8 @@ class Lost(Asking):
         text = "voucher,account,sum\\nA-1,al,500\\nA-2,bo,70\\n"
         box.must(f"printf '{text}' | radacctl sell")
         told = box.must("printf 'voucher,account,sum\\nB-1,cy,60\\n' | radacctl sell")
-        check("a sale by the outbox", "added 1" in told, True)
-        check("a report", pair_page.report(box, "S-1", "al", 3 << 20), True)
-        waits_for("is charged", lambda: "al,470,0" in box.must(f"cat {BALANCES}"), True, 60)
+        check("a report", self.report(3), True)
+        waits_for("is charged", lambda: "al,497,0" in box.must(f"cat {BALANCES}"), True, 60)
         for _ in range(2):
             name, codes = redeeming.sheet(box.must, 3)
             self.sheets.append(name)
@@ -158,7 +132,7 @@ class Lost(Asking):
         box.must(f"radacctl voucher withdraw --yes {self.sheets[1]}")
         told = box.must("radacctl key new al --days 300")
         self.key = told.split(" ")[-1].strip()
-        box.must("radacctl debit --port 11813 bo 7 VOID-A-2 2>&1")
+        box.must("radacctl debit bo 7 VOID-A-2 2>&1")
         waits_for("the debit", lambda: "bo,63,0" in box.must(f"cat {BALANCES}"), True, 60)
         waits_for("al logs in", self.may_log_in, True, 30)
 
@@ -180,7 +154,7 @@ class Lost(Asking):
 
 def commands(title):
     """The commands of each numbered step of a part of the page."""
-    return pair_page.steps(pair_page.section(PAGE, title))
+    return page_steps.steps(page_steps.section(PAGE, title))
 
 
 class Again(Asking):
@@ -209,7 +183,7 @@ class Again(Asking):
                 self.install(staged)
             if number == 1:
                 text = "mkdir -p /root/copy\n" + text
-            told = pair_page.run(box, f"step {number}", text)
+            told = page_steps.run(box, f"step {number}", text)
             print("".join(f"         {line}\n" for line in told.splitlines()[-4:]), end="")
 
     def install(self, staged):
@@ -236,12 +210,10 @@ class Again(Asking):
         text = "voucher,account,sum\\nA-1,al,500\\nA-3,al,30\\n"
         told = box.must(f"printf '{text}' | radacctl sell")
         check("a file is given again", "added 1, repeated 1, refused 0\n" in told, True)
-        check("a report", pair_page.report(box, "S-1", "al", 4 << 20), True)
-        waits_for("is charged", lambda: "al,490,0" in box.must(f"cat {BALANCES}"), True, 60)
-        box.must("radacctl debit --port 11813 bo 7 VOID-A-2 2>&1")
-        told = box.run("radacctl debit --port 11813 cy 7 VOID-A-2")
+        check("a report", self.report(4), True)
+        waits_for("is charged", lambda: "al,526,0" in box.must(f"cat {BALANCES}"), True, 60)
+        box.must("radacctl debit bo 7 VOID-A-2 2>&1")
+        told = box.run("radacctl debit cy 7 VOID-A-2")
         check("a debit's number is known", (told[0], "was given before" in told[1]), (1, True))
         box.must("systemctl start radacctd-nightly")
-        box.must("systemctl restart radacctd-outbox")
         told = box.must("printf 'voucher,account,sum\\nB-1,cy,60\\nB-2,cy,1\\n' | radacctl sell")
-        check("the outbox knows its sale", "added 1, repeated 1, refused 0\n" in told, True)

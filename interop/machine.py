@@ -24,7 +24,7 @@ MIRROR = "http://deb.debian.org/debian"
 # With libbpf1 Debian 13's systemd enforces which ports a unit may bind; Debian 12's never does.
 PACKAGES = ["systemd", "systemd-sysv", "dbus", "python3", "procps", "sensible-utils", "libbpf1"]
 # What a whole site has: FreeRADIUS, nginx, printed vouchers, copies from one machine to another.
-SITE = ["curl", "freeradius", "freeradius-utils", "iproute2", "nginx"]
+SITE = ["curl", "freeradius", "freeradius-rest", "freeradius-utils", "iproute2", "nginx"]
 SITE += ["openssh-client", "openssh-server", "qrencode"]
 SITE += ["rsync", "sqlite3"]
 SITE += ["gunicorn", "libjs-bootstrap5", "python3-bottle", "python3-jinja2", "python3-segno"]

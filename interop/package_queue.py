@@ -1,7 +1,8 @@
-"""Rows of interop/package: an upgrade behind FreeRADIUS, with open sessions and a waiting queue;
-and what apt says of a removal while others read files of the package.
+"""Rows of interop/package: an upgrade behind FreeRADIUS, with open sessions and reports that wait;
+and a removal.
 """
 
+import json
 import os
 import re
 import tempfile
@@ -10,7 +11,7 @@ import start_site
 from served import check
 from service import BALANCES, until
 
-QUEUE = "/var/log/freeradius/radacct/radacctd"
+WAITS = "/var/lib/radacctd-front/waits"
 COUNT, SOLD, BLOCK = 5, 1000, 10_000_000
 SALE = f"printf 'voucher,account,sum\\nQ-1,al,{SOLD}\\n' | radacctl sell"
 
@@ -20,8 +21,12 @@ class Front:
 
     def __init__(self, box):
         self.box = box
-        text = box.must(f"cat {start_site.RADDB}/radacctd/access-servers.conf")
+        text = box.must(f"cat {start_site.FRONT}/clients.conf")
         self.secret = re.search(r"client radacctd-setup \{\n.*\n\tsecret = (\S+)", text)[1]
+        key = re.search(r"\tkey = (\S+)", box.must(f"cat {start_site.FRONT}/settings.conf"))[1]
+        said = box.beside(["curl", "-s", "-H", f"Desk-Key: {key}",
+                           "http://127.0.0.1:8066/logins/al/default"])[1]
+        self.stamp = json.loads(said)["stamp"]
 
     def reported(self, status, blocks):
         """How many sessions' reports were answered, each of so many blocks."""
@@ -29,7 +34,7 @@ class Front:
 
     def answered(self, session, status, blocks):
         lines = ["User-Name=al", f"Acct-Session-Id={session}", f"Acct-Status-Type={status}",
-                 "Class=default", f"Acct-Input-Octets={blocks * BLOCK}",
+                 f'Class="{self.stamp}"', f"Acct-Input-Octets={blocks * BLOCK}",
                  "Packet-Src-IP-Address=127.0.0.8"]
         words = f"radclient -r 2 -t 3 -x 127.0.0.1:1813 acct {self.secret}"
         said = self.box.run(f"echo '{','.join(lines)}' | {words}")[1]
@@ -44,7 +49,7 @@ class Front:
         return until(lambda: self.balance() == wanted, 90) or self.balance()
 
     def waiting(self):
-        found = self.box.run(f"grep -rhc '^\tTimestamp' {QUEUE}")[1].split()
+        found = self.box.run(f"grep -rhc '^\tTimestamp' {WAITS}")[1].split()
         return sum(map(int, found))
 
 
@@ -65,14 +70,12 @@ def upgraded(box):
     check("sessions are open", front.reported("Interim-Update", 2), COUNT)
     check("and charged", front.charged(2), True)
     box.must("kill -STOP $(systemctl show -P MainPID radacctd)")
-    check("while radacctd is silent it answers", front.reported("Interim-Update", 4), COUNT)
-    check("and wait", front.waiting(), COUNT)
-    before = box.must("systemctl show -P MainPID freeradius")
+    check("while radacctd is silent no report is answered", front.reported("Interim-Update", 4), 0)
+    check("and all wait", until(lambda: front.waiting() == COUNT, 30), True)
     status, said = box.run("dpkg -i /root/new.deb")
     check("an upgrade meanwhile ends well", (status, "not" in said.split()), (0, False))
     check("what waited is charged, once", front.charged(4), True)
     check("nothing waits", until(lambda: front.waiting() == 0, 30), True)
-    check("FreeRADIUS went on", box.must("systemctl show -P MainPID freeradius"), before)
     check("the sessions go on", front.reported("Stop", 6), COUNT)
     check("as those that they were", front.charged(6), True)
     check("the same again", front.reported("Stop", 6), COUNT)
@@ -85,15 +88,7 @@ def upgraded(box):
 
 
 def removed(box):
-    """apt removes nothing that others read, until one has done what it says."""
-    others = ("freeradius", "nginx")
-    status, said = box.run("apt-get remove -y radacctd")
-    check("while FreeRADIUS has its files, apt removes nothing",
-          (status != 0, "FreeRADIUS has files of this package" in said), (True, True))
-    check("and all go on", box.run(f"systemctl is-active {' '.join(others)}")[1],
-          "active\n" * len(others))
-    for command in re.findall(r"(?m)^ {4}(\S.*)$", said):
-        box.must(command.replace("setup --remove", "setup --remove --yes"))
-    check("then apt removes it", box.run("apt-get remove -y radacctd")[0], 0)
-    for it in others:
-        check(f"{it} starts without it", box.run(f"systemctl restart {it}")[0], 0)
+    """apt removes the package, and what reads no file of it goes on."""
+    check("apt removes it", box.run("apt-get remove -y radacctd")[0], 0)
+    for it in ("nginx", "radacctd-front"):
+        check(f"{it} goes on", box.run(f"systemctl is-active {it}")[1], "active\n")

@@ -36,7 +36,8 @@ SUPPLICANT = """
 ap_scan=0
 network={{
 	key_mgmt=IEEE8021X
-	eap=MD5
+	eap=PEAP
+	phase2="auth=MSCHAPV2"
 	identity="{name}"
 	password="{password}"
 	eapol_flags=0

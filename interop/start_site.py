@@ -7,7 +7,8 @@ import machine
 from served import check
 
 PACKAGES = [*machine.SITE, "openssl"]
-HOST, RADDB = "accounts.hotel.test", "/etc/freeradius/3.0"
+HOST, FRONT = "accounts.hotel.test", "/etc/radacctd-front"
+SCHEMA = "/etc/freeradius/3.0/mods-config/sql/main/postgresql/schema.sql"
 ANSWERS = "/root/site.toml"
 # A container has no clock of its own to keep.
 CLOCK = "#!/bin/sh\necho NTP=yes\necho NTPSynchronized=yes\n"
@@ -52,13 +53,12 @@ def database(box):
     password is returned.
     """
     password = secrets.token_hex(12)
-    schema = f"{RADDB}/mods-config/sql/main/postgresql/schema.sql"
     box.write("/root/radius-password", f"{password}\n", 0o600)
     box.write("/root/.pgpass", f"*:*:*:*:{password}\n", 0o600)
     box.write("/var/tmp/role.sql", ROLE.format(password))
     box.write("/var/tmp/user.sql", USER)
     box.must("systemctl start postgresql && su postgres -c 'psql -qf /var/tmp/role.sql'")
-    for path in (schema, "/var/tmp/user.sql"):
+    for path in (SCHEMA, "/var/tmp/user.sql"):
         box.must(f"HOME=/root psql -qwh localhost -U radius -f {path} radius")
     return password
 

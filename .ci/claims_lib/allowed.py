@@ -14,36 +14,6 @@ def each(reason, *texts):
     return dict.fromkeys(texts, reason)
 
 
-# FreeRADIUS' own files, words and texts. What it has of this repository is in etc/freeradius.
-FREERADIUS = each(
-    "FreeRADIUS, its folder or an access server has it",
-    '"accept"',
-    '"last"',
-    '"refuse"',
-    ".../etc",
-    "Configuration appears to be OK",
-    "Session-Timeout",
-    "Simultaneous-Use",
-    "detail.work",
-    "radacctd-queue.clock",
-    "radacctd-queue.cut",
-    "radacctd-queue.fault",
-    "radacctd-queue.undated",
-    "radacctd-queue.volatile",
-    "use_tunneled_reply",
-    "nasipaddress",
-    "radacctd/access-servers.conf",
-    "radacctd/settings.conf",
-    "settings.conf",
-    "radacctd = no",
-    "al@campus.example",
-    "sites-available/tls",
-    "tls",
-    "proxy.conf",
-    "sites-enabled/default",
-    "sites-enabled/inner-tunnel",
-)
-
 # What access servers and their dictionaries call theirs.
 VENDORS = each(
     "a vendor's own, or FreeRADIUS'",
@@ -53,12 +23,10 @@ VENDORS = each(
     "Output-Octets",
     "Recv",
     "Xmit",
-    "max_attributes",
-    "radacctd_quota = chillispot",
-    "radacctd_quota = pfsense",
+    "accounting_close_on_timeout = no",
+    "accounting_send_class = yes",
     "radius_acct_interim_interval",
     "radius_das_port",
-    "status_server = yes",
 )
 
 ALLOWED = {
@@ -89,22 +57,17 @@ ALLOWED = {
     "man/radacctl.8": each("a command of radacctl", "night", "allow", "person", "sales", "who"),
     "docs/DOCTOR.md": {
         **each("a fault's name: .ci/tools compares them", "book-shut", "drop-secret", "log-odd"),
-        "radacctd/settings.conf": "a copy of a file of etc/freeradius",
     },
     "docs/START.md": {
         "/desk/": "a page of the service",
         **each("a member of the answers", "left_out", "virtual_servers"),
-        **each("a file, section or module of FreeRADIUS, or its database's",
-               "filter_username", "mods-enabled/sql", "sql", "radacct", "accounting",
-               "accounting = true"),
         "/root/radacctd-setup": "radacctl setup makes it",
         **each("a table of the answers", "[sql]"),
         "~before-": "a part of a name that radacctl setup makes",
     },
     "docs/ACCESS-SERVERS.md": {
         **VENDORS,
-        "gold;radacctd;;al;": "an example",
-        "radacctd = no": "a line of a client in FreeRADIUS",
+        **each("a line of a client in FreeRADIUS", "quota = chillispot", "quota = pfsense"),
     },
     "docs/DESK.md": {
         **each("a path of the desk", "/logins/ACCOUNT/CLASS[/LOGIN[/STATION/SECONDS]]", "/me/PAGE",
@@ -117,7 +80,6 @@ ALLOWED = {
         "an example", "https://accounts.example.org/desk/", "mueller-1126"
     ),
     "docs/FILES.md": each("a line of an example", "V-2,bo,3", "V-2,bo,300"),
-    "docs/FREERADIUS.md": FREERADIUS,
     "docs/GATE.md": {
         **each("Rust's own", "Debug", "Vec::new"),
         "grind": "the kit's own",
@@ -133,29 +95,6 @@ ALLOWED = {
     },
     "man/radacctd-backup.8": {"FOLDER/book-wal": "a copy"},
     "man/radacctd-restore.8": {"BOOK.replaced-DATE-TIME": "restore makes it"},
-    "docs/PAIR.md": {
-        **each(
-            "FreeRADIUS' own file, or a copy of one of etc/freeradius",
-            "radiusd.conf",
-            "settings.conf",
-            "radacctd/access-servers.conf",
-        ),
-        **each(
-            "radacctd-compare puts it together",
-            "here: the queue for this machine",
-            "there: the queue for the other machine",
-            "here: the other machine: ...",
-            "here: the outbox: ...",
-            *(f"here: the {it}: ..." for it in ("counts", "plans", "balances")),
-            *(f"here: the queue for {it} machine: ..." for it in ("this", "the other")),
-            "here: the balances: 700 s old",
-            "here: the queue for this machine: 700 s old",
-            "here: the queue for the other machine: 700 s old",
-        ),
-        "OnFailure=": "systemd's own",
-        "radacctd/pair.conf": "a copy of a file of etc/pair",
-    },
-    "man/radacctd-outbox.8": {"/waiting": "a path of radacctd-outbox' own"},
     "man/radacctd-nightly.8": {"exports/DATE": "a folder that it makes"},
     "docs/TROUBLE.md": {
         **each(

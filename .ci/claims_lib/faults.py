@@ -93,7 +93,7 @@ TO_DO = {
     "TooShort": "something else talks to this port",
     "BadLength": "cut in flight, or no RADIUS client",
     "WrongCode": "a login or Status-Server:"
-    " [what a FreeRADIUS proxy needs](FREERADIUS.md#freeradius-as-a-plain-proxy)",
+    " a FreeRADIUS that passes reports on needs `status_check = none`",
     "BadAuthenticator": "compare the secrets",
     "BadAttribute": BROKEN,
     "NoStatus": BROKEN,

@@ -48,19 +48,6 @@ KEPT = {
         "An old report without it is taken for one of now",
         "and sums by plan stay for ever",
     ),
-    "docs/FREERADIUS.md": (
-        "it is on the disk, synced: a kill, a power cut or a crash costs none",
-        "it is not answered, and sent again",
-        "the time in the queue is measured by one that nobody sets",
-        "tmpfs does not",
-        "If the queue's folder vanished, no report is answered",
-        "an outage costs less than twice `last_quota`",
-        "hides how long it kept a report",
-        "A name that no tool of radacctd would sell to is refused",
-        "Two sessions at once",
-        "Without `radacctd_login` in the inner tunnel the login is refused",
-        "whatever Debian's `use_tunneled_reply` is",
-    ),
     "docs/FRONTDESK.md": (
         "Do not sell it a second time",
         "They count in the next shift, once the book has them",
@@ -77,15 +64,6 @@ KEPT = {
         "that group reads every secret and the cashiers' keys",
         "The secrets and keys of the sample are public",
         "never with `cp` while the server runs",
-    ),
-    "docs/PAIR.md": (
-        "Never skip step 3",
-        "Never repeat a debit from before FreeRADIUS had this client",
-        "A power cut alone loses none",
-        "a user may spend at both machines what is there once",
-        "An older backup of the lost book lacks all later reports",
-        "End a key on **both**",
-        "Restart radacctd on a machine that serves already",
     ),
     "docs/PROOFS.md": (
         "It needs the copy's right delay, and a clock that was not behind before",
@@ -121,7 +99,7 @@ KEPT = {
         "Delete nothing in `/var/lib/radacctd`",
         "these are reports that are not charged yet",
         "A restart fails",
-        "FreeRADIUS keeps them in its queue",
+        "FreeRADIUS keeps them, and sends them later",
         "that report is lost until the session's next report",
         "what it used since the last answered one is lost",
         "look for the book first, then give `init` again",
@@ -137,7 +115,7 @@ KEPT = {
         "A restart without step 3 fails",
         "the copy is sound",
     ),
-    "docs/WATCHING.md": ("each report there is money that nobody was charged",),
+    "docs/WATCHING.md": ("each report that was set aside is money that nobody was charged",),
 }
 
 

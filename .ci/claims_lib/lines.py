@@ -47,7 +47,7 @@ LINES = {
         ("status: cannot write", "that file cannot be written; printed once until it can. Look at space"
          " and rights of its folder"),
         ("balances: cannot write",
-         "the same; logins go by [old balances](FREERADIUS.md#how-old-a-balance-is)"),
+         "the same; the pages show old balances"),
         ("balances: db: Unavailable", "the balances could not be read"),
         ("balances: db: Memory", "the same"),
     ],

@@ -7,7 +7,6 @@ from claims_lib import contracts, figures, openers, reading
 from claims_lib.tree import FOR_TESTS, text_of, without_comments
 
 FIGURES = "crates/acct_program_commands/src/figures.rt"
-FRONT = "etc/freeradius/front-counts"
 DOCTOR = "etc/radacctl/commands/doctor.py"
 # What the program's own line on a metric leaves open. Its text goes with the next change of that
 # source.
@@ -22,12 +21,7 @@ NOTES = {
     "radacctd_accounts": "absent without a file of balances",
     "radacctd_overdrawn_accounts": "absent without a file of balances",
     "radacctd_build_info": "always 1",
-    "radacctd_queue_state": "[its states](FREERADIUS.md#when-the-queue-cannot-be-written)",
-    "radacctd_device_default_sessions": "of an access server, since FreeRADIUS' start",
-    "radacctd_device_wrapped_reports": "[by symptom](ACCESS-SERVERS.md#by-symptom)",
-    "radacctd_mirror_is_readable": "0: logins have no balances",
     "radacctd_doctor_fault": "[the names](DOCTOR.md), each with its `gravity`",
-    "radacctd_mirror_as_of_time_seconds": "[how old](FREERADIUS.md#how-old-a-balance-is)",
 }
 
 
@@ -41,7 +35,7 @@ def metric_rows(checker, found):
     yield "|---|---|---|"
     for name, about in found:
         yield row(f"`{name}`", about.rstrip("."), NOTES.get(name, ""))
-    every = dict(metrics_of_server()) | dict(metrics_of_front()) | dict(metrics_of_doctor())
+    every = dict(metrics_of_server()) | dict(metrics_of_doctor())
     for name in sorted(set(NOTES) - set(every)):
         checker.find(1, f"no source has the metric {name}: see claims_lib/made_tables.py")
 
@@ -57,12 +51,6 @@ def metrics_of_server():
         yield one or four or five, two or three or six
 
 
-def metrics_of_front():
-    """The metrics that FreeRADIUS' side counts."""
-    block = re.search(r"^HELP = \{\n(.*?)^\}", text_of(FRONT), re.M | re.S)[1]
-    yield from re.findall(r'"(radacctd_\w+)": "([^"]+)"', block)
-
-
 def metrics_of_doctor():
     """The metrics that the doctor writes."""
     block = re.search(r"^COUNTS = \{\n(.*?)^\}", text_of(DOCTOR), re.M | re.S)[1]
@@ -70,8 +58,8 @@ def metrics_of_doctor():
 
 
 def metrics(checker, side):
-    """The metrics of the server, of FreeRADIUS' side, or of the doctor."""
-    makers = {"server": metrics_of_server, "front": metrics_of_front, "doctor": metrics_of_doctor}
+    """The metrics of the server, or of the doctor."""
+    makers = {"server": metrics_of_server, "doctor": metrics_of_doctor}
     return metric_rows(checker, list(makers[side]()))
 
 

@@ -18,8 +18,7 @@ from claims_lib.style import made_lines, plain
 from claims_lib.tree import ROOT, text_of
 
 OPERATORS = (
-    "README ACCESS-SERVERS BOOK DAMAGE DESK DOCTOR FILES FORWARD FREERADIUS FRONTDESK GONE"
-    " INSTALL PAIR"
+    "README ACCESS-SERVERS BOOK DAMAGE DESK DOCTOR FILES FORWARD FRONTDESK GONE INSTALL"
     " SEMANTICS SITE SIZING START TROUBLE VOUCHERS WATCHING"
 ).split()
 PROMISE = re.compile(
@@ -40,8 +39,6 @@ WHOLE = (
     ("docs/PROOFS.md", "What is only tested", "row"),
     ("docs/DESK.md", "Who sold what", "row"),
     ("docs/DAMAGE.md", "What is not found", "text"),
-    ("docs/FREERADIUS.md", "What you can rely on", "row"),
-    ("docs/FREERADIUS.md", "Reports that do not reach radacctd", "row"),
     ("docs/SEMANTICS.md", "What a kill leaves", "row"),
     ("docs/SIZING.md", "How often a commit syncs", "row"),
     ("docs/TROUBLE.md", "What an outage costs", "row"),

@@ -122,7 +122,7 @@ class Checker:
     def tools(self):
         """The texts of the tools that are installed next to the program."""
         tools = re.findall(r"radacctd-[a-z][a-z-]*", self.tree.scripts["bin/install"])
-        folders = ("etc/tools/", "etc/pair/")
+        folders = ("etc/tools/",)
         tools += [os.path.basename(it) for it in self.tree.scripts if it.startswith(folders)]
         commands = [it for path, it in self.tree.scripts.items()
                     if path.startswith("etc/radacctl/commands/")]
@@ -262,13 +262,11 @@ class Checker:
         known = (tree.all_names, tree.words, tree.crates, tree.kit, tree.used, self.help, PROGRAMS)
         if any(word in it for it in known):
             return True
-        own = {"docs/FREERADIUS.md": "etc/freeradius/", "docs/WATCHING.md": "etc/monitoring/"}
-        own |= {"docs/PAIR.md": "etc/", "docs/ACCESS-SERVERS.md": "etc/"}
+        own = {"docs/WATCHING.md": "etc/monitoring/", "docs/ACCESS-SERVERS.md": "site/front/"}
         folder = own.get(self.page, "no folder")
         if self.page == "docs/WATCHING.md" and word.startswith("radacctd_"):
             # The counts that are not the program's.
-            places = ("etc/freeradius/front-counts", "etc/radacctl/commands/doctor.py")
-            return any(has(tree.scripts[it], word) for it in places)
+            return has(tree.scripts["etc/radacctl/commands/doctor.py"], word)
         texts = [it for path, it in tree.scripts.items() if path.startswith(folder)]
         texts.append(self.tool(os.path.basename(self.page)[:-2]))
         if any(has(it, word) for it in texts):

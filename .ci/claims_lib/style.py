@@ -12,7 +12,7 @@ from claims_lib.tree import text_of
 MOST = {
     "CHANGELOG.md": 1048,
     "README.md": 675,
-    "docs/ACCESS-SERVERS.md": 1305,
+    "docs/ACCESS-SERVERS.md": 885,
     "docs/ARCHITECTURE.md": 840,
     "docs/BENCHES.md": 770,
     "docs/BOOK.md": 1475,
@@ -27,12 +27,10 @@ MOST = {
     "docs/FEED.md": 300,
     "docs/FILES.md": 600,
     "docs/FORWARD.md": 1033,
-    "docs/FREERADIUS.md": 2555,
     "docs/FRONTDESK.md": 660,
     "docs/GATE.md": 965,
     "docs/GONE.md": 710,
     "docs/INSTALL.md": 1050,
-    "docs/PAIR.md": 1850,
     "docs/PROOFS.md": 2335,
     "docs/SEMANTICS.md": 1130,
     "docs/SITE.md": 645,
@@ -42,7 +40,7 @@ MOST = {
     "docs/VOUCHERS.md": 920,
     "docs/WATCHING.md": 395,
 }
-MOST_IN_ALL = 34000
+MOST_IN_ALL = 29000
 # A page that no other work has bounded yet.
 NEW_PAGE = 1500
 MOST_IN_SENTENCE, MOST_IN_CELL = 30, 25

@@ -5,12 +5,8 @@ person, and why. docs/BENCHES.md has the table.
 # The scripts that run a page's commands, by its name.
 RUN = {
     "DESK": "interop/desk_page.py",
-    "FORWARD": "interop/pair_page.py",
-    "FREERADIUS": "interop/front_page.py",
     "GONE": "interop/gone_page.py",
     "INSTALL": "interop/install_page.py",
-    "PAIR": "interop/pair_page.py",
-    "SITE": "interop/front_page.py",
     "START": "interop/start",
     "WATCHING": "interop/monitoring",
 }
@@ -18,6 +14,8 @@ RUN = {
 BY_HAND = {
     "ACCESS-SERVERS": "each setting is of another maker's device: interop/access-servers",
     "BOOK": "interop/backup, flips and run use the same commands over their own books",
+    "FORWARD": "interop/forward does the same over its own books",
+    "SITE": "interop/systemd types the steps of a change, and no script those of a plan",
     "DOCTOR": "interop/doctor breaks a site in each way of the page",
     "DAMAGE": "each way needs damage of its own; interop/flips and interop/telling make some of it",
     "FRONTDESK": "a clerk's page: no command",

@@ -1,10 +1,9 @@
-"""What a set-up that is given again finds, finishes and leaves alone; and a removal."""
+"""What a set-up that is given again finds, finishes and leaves alone."""
 
 import contextlib
 import http.server
 import io
 import os
-import re
 import shutil
 import ssl
 import stat
@@ -15,32 +14,14 @@ import time
 import unittest
 from unittest import mock
 
-from radacctl import configuration, files, freeradius, site as places
+from radacctl import configuration, files
 from radacctl.commands import setup, site as copying
-from radacctl.doctor import book, front as of_front, machine
-from radacctl.doctor import web as of_web
-from radacctl.setup import alone, answers, away, front, pair as of_pair, sql
-from radacctl.setup import steps, web
+from radacctl.doctor import book, machine, web as of_web
+from radacctl.setup import alone, answers, steps, web
 import tool_tests
-from tool_tests import ROOT
 
 PLAN = {"class": "default", "block": 1000, "unit": 5}
 NEEDS_ROOT = unittest.skipUnless(os.geteuid() == 0, "only root gives files away")
-# A short virtual server, two sections of which have the same lines.
-SERVER = """server x {
-authorize {
-	filter_username
-	sql
-	pap
-}
-accounting {
-	sql
-}
-post-auth {
-	sql
-}
-}
-"""
 
 
 def wanted(**more):
@@ -62,98 +43,6 @@ class Folder(tool_tests.Folder):
         self.addCleanup(patch.stop)
 
 
-class Sections(unittest.TestCase):
-    """A section is changed where it is, and not where the same lines stand before it."""
-
-    def test_logins_still_ask_the_database(self):
-        text = front.default(SERVER, wanted(sql={"password_file": "/root/x"}), "x")
-        words = {it: freeradius.section(freeradius.without_comments(text), it).split()
-                 for it in ("authorize", "accounting", "post-auth")}
-        self.assertEqual(words["authorize"], ["filter_username", "sql", "pap"])
-        self.assertEqual(words["accounting"], ["radacctd_accounting"])
-        self.assertEqual(words["post-auth"], ["radacctd_login", "sql"])
-        self.assertEqual(away.lines_out(text), SERVER)
-
-    def test_a_brace_of_a_comment_ends_no_section(self):
-        text = SERVER.replace("accounting {", "accounting {\n\t# to here: }")
-        found = sql.without_sql(text)
-        off = f"here: }}\n\t{freeradius.MARK} sql\n"
-        self.assertEqual(found, text.replace("here: }\n\tsql\n", off))
-        found = steps.begun(found, "accounting", "radacctd_accounting")
-        self.assertEqual(away.lines_out(found), text)
-
-    def test_a_section_on_one_line_gets_its_word_too(self):
-        """Behind it the word would be no section's, and no report would be queued."""
-        text = "server x {\n\taccounting { detail }\n\tsession { }\n}\n"
-        found = steps.begun(text, "accounting", "radacctd_accounting")
-        self.assertEqual(freeradius.section(found, "accounting").split(),
-                         ["radacctd_accounting", "detail"])
-
-    def test_a_database_that_is_written_again_is(self):
-        other = {"password_file": "/root/x"}
-        for more in ("", "\t-sql\n"):
-            begun = SERVER.replace("accounting {\n\tsql\n", f"accounting {{\n\tsql\n{more}")
-            text = front.default(begun, wanted(sql=other), "x")
-            again = front.default(text, wanted(sql={**other, "accounting": True}), "x")
-            self.assertEqual(freeradius.section(again, "accounting").split(),
-                             ["radacctd_accounting", "sql", *more.split()])
-            self.assertEqual(front.default(again, wanted(sql={**other, "accounting": True}), "x"),
-                             again)
-        own = SERVER.replace("accounting {", "accounting {\n\t# -sql")
-        found = front.default(own, wanted(sql={**other, "accounting": True}), "x")
-        self.assertIn("\t# -sql\n\tsql\n", found)
-
-    def test_debians_own_server_writes_no_report_a_second_time(self):
-        text = SERVER.replace("accounting {", "accounting {\n\tdetail\n#\tdaily")
-        for is_debians, words in ((True, ["radacctd_accounting", "sql"]),
-                                  (False, ["radacctd_accounting", "detail", "sql"])):
-            with mock.patch.object(front, "is_debians", lambda *_, it=is_debians: it):
-                found = front.default(text, wanted(), "x")
-            bare = freeradius.without_comments(found)
-            self.assertEqual(freeradius.section(bare, "accounting").split(), words)
-            self.assertEqual(away.lines_out(found), text)
-
-    def test_a_site_keeps_its_own_comments(self):
-        """As a line one could need a module that is not there: FreeRADIUS would not start."""
-        other = wanted(sql={"password_file": "/root/x"})
-        for more in ("", "\tsql\n", "\t-sql\n\tdetail\n"):
-            text = SERVER.replace("\tsql\n", f"\t# sql\n\t# detail\n{more}")
-            self.assertEqual(away.lines_out(text), text)
-            for one in (wanted(), other):
-                self.assertEqual(away.lines_out(front.default(text, one, "x")), text)
-
-    def test_a_line_with_a_comment_is_a_line(self):
-        one = wanted()
-        text = front.default(SERVER.replace("post-auth {", "preacct {\n}\npost-auth {\n"
-                                            "Post-Auth-Type REJECT {\n}"), wanted(), "x")
-        begun = away.lines_out(text)
-        text = re.sub(r"(radacctd_(?:login|accounting))\n", r"\1  # who pays\n", text)
-        self.assertEqual(away.lines_out(text), begun)
-        text = front.default(text, one, "x")
-        self.assertEqual(front.default(text, one, "x"), text)
-        self.assertEqual(away.lines_out(text), begun)
-        own = SERVER.replace("\tsql\n", "\tsql # of the house\n")
-        text = front.default(own, wanted(sql={"password_file": "/root/x"}), "x")
-        bare = freeradius.section(freeradius.without_comments(text), "accounting")
-        self.assertEqual(bare.split(), ["radacctd_accounting"])
-        self.assertEqual(away.lines_out(text), own)
-
-    def test_a_server_without_the_section_stays(self):
-        text = SERVER.replace("accounting", "preacct")
-        self.assertEqual((sql.without_sql(text), away.lines_out(text)), (text, text))
-        self.assertEqual(freeradius.section("server x {\naccounting {\n\tsql\n", "accounting"), "")
-
-    def test_a_line_in_a_comment_is_not_there(self):
-        text = f"modules before\n# {front.INCLUDES.splitlines()[0]}\nmodules {{\n}}\n"
-        self.assertEqual(front.main(text, wanted()).count("\n$INCLUDE radacctd/settings.conf\n"), 1)
-
-    def test_a_file_that_is_named_by_its_whole_path_is_there(self):
-        for folder in ("/etc/freeradius/3.0/", "${confdir}/", ""):
-            text = "".join(f"$INCLUDE {folder}{it.split()[1]}\n"
-                           for it in front.INCLUDES.splitlines()) + "modules {\n}\n"
-            self.assertEqual(front.main(text, wanted()), text)
-
-
 class Again(Folder):
     def test_a_book_whose_server_never_ran_gets_new_plans(self):
         """A run that was killed before the server's first start, and a plan more in the file."""
@@ -161,7 +50,7 @@ class Again(Folder):
                                           (True, {"default": ()}, True)):
             self.patched(alone, "has_book", lambda it=is_there: it)
             self.patched(alone.plans, "in_force", lambda it=in_force: it)
-            config = mock.Mock(keys={"cashier": "c" * 32})
+            config = mock.Mock(keys={"cashier": "c" * 32}, plans=[PLAN, {"class": "debit"}])
             config.clients = {"books": {"secret": "b" * 32}}
             made = [it for it in alone.of(wanted(), config) if getattr(it, "what", "").startswith(
                 "put the new plans into the book")]
@@ -169,7 +58,7 @@ class Again(Folder):
             self.assertEqual([it.is_done() for it in made], [False] * found)
 
     def test_settings_of_systemd_count_by_their_last_line(self):
-        text = "RADACCTD_RADIUS_PORT=1\n RADACCTD_RADIUS_PORT=2\n"
+        text = "RADACCTD_RADIUS_PORT=1\n RADACCTD_RADIUS_PORT=1813\n"
         self.assertEqual(alone.defaults(text, wanted()),
                          "RADACCTD_RADIUS_PORT=1\nRADACCTD_RADIUS_PORT=11813\n")
         one = [{"name": "a", "address": "10.0.0.1"}]
@@ -178,68 +67,10 @@ class Again(Folder):
         self.assertTrue(found.endswith('\nRADACCTD_BIND="--bind 127.0.0.1 --bind 10.0.0.5"\n'))
 
     def test_a_site_without_freeradius_has_its_port_again(self):
-        """And it is no such site as long as FreeRADIUS is in front."""
         one = wanted(freeradius=False, server="10.0.0.5")
         for port, new in (("11813", "1813"), ("20113", "20113")):
             found = alone.defaults(f"RADACCTD_RADIUS_PORT={port}\n", one)
             self.assertIn(f"RADACCTD_RADIUS_PORT={new}\n", found)
-        self.patched(places, "RADDB", self.folder)
-        self.put("radacctd {\n}\n", "radacctd", "settings.conf")
-        with self.assertRaisesRegex(steps.Failed, "setup --remove"):
-            list(alone.of(one, mock.Mock()))
-
-    def test_clients_of_a_file_that_is_named_by_its_whole_path_are_the_sites_own(self):
-        self.patched(places, "RADDB", self.folder)
-        self.put(f"$INCLUDE {self.folder}/own.conf\n$INCLUDE /etc/hosts\n", "radiusd.conf")
-        self.put("client wlc {\n\tipaddr = 10.0.0.1\n\tsecret = of-the-wlc\n}\n", "own.conf")
-        self.assertEqual(freeradius.client_at("10.0.0.1")[:2], ("own.conf", "wlc"))
-        # But none that FreeRADIUS' user names by a way out of its folder: root would write into it.
-        self.put("client out {\n\tipaddr = 10.0.0.2\n\tsecret = x\n}\n", "..", "out.conf")
-        self.addCleanup(os.remove, os.path.join(self.folder, "..", "out.conf"))
-        names = ("own.conf", "../out.conf", "x/../../out.conf")
-        self.put("".join(f"$INCLUDE {it}\n" for it in names), "radiusd.conf")
-        os.mkdir(os.path.join(self.folder, "x"))
-        self.assertEqual(freeradius.included(), ["own.conf"])
-
-    def test_an_access_server_of_another_vendor_is_told(self):
-        """What its client has stays: it was changed by hand, or the answer is new."""
-        self.patched(places, "RADDB", self.folder)
-        one = {"name": "lobby", "address": "10.0.0.1", "vendor": "other"}
-        self.put(front.clients(None, wanted(access_server=[one])), "radacctd/access-servers.conf")
-        self.assertEqual(list(front.others(wanted(access_server=[one]))), [])
-        found = list(front.others(wanted(access_server=[{**one, "vendor": "mikrotik"}])))
-        self.assertEqual([re.search(r"radacctd_\w+ = \w+", it)[0] for it in found],
-                         ["radacctd_quota = none", "radacctd_cut = no", "radacctd_stamp = name"])
-        self.assertIn("(mikrotik) it is mikrotik", found[0])
-        self.assertEqual(list(front.others(wanted(access_server=[{**one, "name": "new"}]))), [])
-
-    def test_a_secret_stays_as_a_site_spells_it(self):
-        """Between other marks a backslash would mean more: the device would be ignored."""
-        for spelled in (r"'a\b'", r'"a\"b # c"', "plain", r"plain\x"):
-            self.patched(places, "RADDB", self.folder)
-            self.put("$INCLUDE clients.conf\n", "radiusd.conf")
-            self.put("".join(f"client {name} {{\n\tipaddr = {place}\n\tsecret = {spelled}\n}}\n"
-                             for name, place in (("all", "10.0.0.0/24"), ("one", "10.0.1.1"))),
-                     "clients.conf")
-            both = [{"name": "hall", "address": "10.0.0.7", "vendor": "openwrt"},
-                    {"name": "one", "address": "10.0.1.1", "vendor": "openwrt"}]
-            text = front.clients(None, wanted(access_server=both))
-            # The client of the hall, and where both are cut off.
-            self.assertEqual(text.count(f"\tsecret = {spelled}\n"), 3, text)
-
-    def test_who_reported_to_radacctd_keeps_its_secret(self):
-        """FreeRADIUS comes in front: nobody has to type a secret at the access server again."""
-        self.patched(freeradius, "text", lambda *_: "")
-        one = wanted(access_server=[{"name": "lobby", "address": "10.0.0.1"}])
-        secret = lambda **client: freeradius.value(dict(freeradius.blocks("client", 
-            front.clients(None, one, None, {"lobby": client})))["lobby"], "secret")
-        self.assertEqual(secret(address="10.0.0.1", secret="it's # of 2019"), "it's # of 2019")
-        self.assertEqual(len(secret(address="10.0.0.2", secret="of another one")), 32)
-        with self.assertRaisesRegex(steps.Failed, "the secret of lobby"):
-            secret(address="10.0.0.1", secret="a\\b")
-        # One that FreeRADIUS knows already, as a part of a network, has that one's.
-        self.patched(front, "covering", lambda *_: "of-all")
-        self.assertEqual(secret(address="10.0.0.1", secret="a\\b"), "of-all")
 
     @NEEDS_ROOT
     def test_no_secret_is_added_to_a_file_that_others_may_read(self):
@@ -266,7 +97,7 @@ class Again(Folder):
         self.patched(web, "OF_PACKAGE", self.path)
         self.put("server { listen 80; }\n")
         known = "fc4c5ae1ccf2e8b1a8e6d0b0e4a9f0b2"
-        self.patched(front.look, "run", lambda *_: (0, f" {self.path} {known}\n"))
+        self.patched(alone.look, "run", lambda *_: (0, f" {self.path} {known}\n"))
         self.assertFalse(web.has_debians_page(), "there is none")
         os.symlink("file", web.DEFAULT)
         self.assertFalse(web.has_debians_page(), "it was edited")
@@ -296,18 +127,10 @@ class Again(Folder):
             self.patched(of_web, "asked", lambda *_, it=status: it)
             self.assertEqual(len([*of_web.answers("")]), count)
 
-    def test_what_a_site_decides_of_a_pair_stays(self):
-        """In another folder of the queue reports for the other machine would wait for ever."""
-        one = wanted(pair={"own": "10.9.0.5", "other": "10.9.0.6"})
-        text = of_pair.conf_of(None, one, "s" * 32)
-        mine = text.replace("11814", "21814").replace("${radacctdir}", "/srv")
-        self.assertEqual(of_pair.conf_of(mine, one, "s" * 32), mine)
-        self.assertEqual(of_pair.conf_of(mine.replace("10.9.0.5", "10.9.0.7"), one, "s" * 32), mine)
-
     def test_a_book_that_has_sold_keeps_its_decimals(self):
         """One more, and each sum of it would be a tenth."""
         one = wanted(name="x", currency="EUR", decimals=0)
-        for accounts, is_told in (({b"anna": 5}, True), ({web.pair.TEST: 0}, False), ({}, False)):
+        for accounts, is_told in (({b"anna": 5}, True), ({b"radacctd-setup": 0}, False), ({}, False)):
             self.patched(web.look.names, "balances", lambda it=accounts: it)
             for old, is_other in (('{"decimals": 2}', True), ('{"decimals": 0}', False), ("", False)):
                 if is_told and is_other:
@@ -338,24 +161,6 @@ class Again(Folder):
             self.assertEqual([fresh(it).is_done() for it in (step.path, "/x")], [False, True])
             fresh(step.path).do()
             self.assertTrue(fresh(step.path).is_done())
-
-    def test_a_program_and_a_unit_of_a_new_version_are_started(self):
-        """Each is a link: an upgrade changes what it leads to, and restarts none of them."""
-        one = wanted(pair={"own": "10.9.0.5", "other": "10.9.0.6"})
-        found = [*front.parts_running(), *of_pair.after(one, mock.Mock())]
-        programs = {"radacctd-mirror": freeradius.path("radacctd/balances-mirror"),
-                    "radacctd-front": freeradius.path("radacctd/front-counts"),
-                    "radacctd-outbox": "/usr/local/sbin/radacctd-outbox"}
-        found = [it for it in found if isinstance(it, steps.Fresh)]
-        # That one begins a process for each caller.
-        self.assertEqual(found[-1].paths, ["/etc/systemd/system/radacctd-state.socket"])
-        for it in found[:-1]:
-            program = programs.pop(it.unit.removesuffix(".service"))
-            self.assertLessEqual({program, f"/etc/systemd/system/{it.unit}"}, set(it.paths))
-            self.assertEqual(machine.SCRIPTS[program], it.unit)
-        self.assertEqual(programs, {})
-        # And what FreeRADIUS has read of them, if nobody gives the set-up after an upgrade.
-        self.assertEqual(machine.SCRIPTS[freeradius.path("radacctd/queue.pl")], "freeradius.service")
 
     def test_a_file_that_is_gone_is_a_change(self):
         """FreeRADIUS' part is taken out, and that run is killed before the restart."""
@@ -393,28 +198,6 @@ class Again(Folder):
             self.assertAlmostEqual(ago, time.monotonic() - began, delta=5)
         self.patched(machine.look, "properties", lambda *_: {**unit, "ActiveState": "failed"})
         self.assertIsNone(machine.begin_of("x.service"))
-
-    def test_systemd_reads_a_unit_whose_address_changed(self):
-        """In a pair the other machine asks that one."""
-        for state, changed, is_read in (("loaded", "no", True), ("not-found", "no", False),
-                                        ("loaded", "yes", False)):
-            said = {"LoadState": f"LoadState={state}\n", "NeedDaemonReload":
-                    f"NeedDaemonReload=no\n\nNeedDaemonReload={changed}\n"}
-            asked = []
-            self.patched(steps, "given", lambda words, it=said: asked.append(words) or it[words[3]])
-            self.assertEqual(front.is_reloaded(), is_read)
-            # Packages have a file of their own for its unit.
-            self.assertEqual("freeradius.service" in asked[-1], state == "loaded")
-
-    def test_a_clock_that_was_ahead_makes_no_program_an_older_one(self):
-        now = steps.time.time()
-        self.patched(machine, "SCRIPTS", {self.put("x"): "x.service"})
-        self.patched(machine.look, "properties", lambda *_: {"MainPID": "1"})
-        for begun, changed, found in ((now - 60, now - 30, 1), (now - 60, now + 600, 0),
-                                      (now - 60, now - 90, 0)):
-            self.patched(machine, "begin_of", lambda _, it=begun: it)
-            self.patched(machine.look, "status_of", lambda _, it=changed: mock.Mock(st_ctime=it))
-            self.assertEqual(len(list(machine.old_scripts())), found, changed - now)
 
     def test_an_installation_that_was_cut_off_is_finished(self):
         """Also if dpkg fails, as while another run of apt has its lock, for which apt-get waits."""
@@ -468,83 +251,6 @@ class Served(Folder):
         text = " ssl_certificate\tx/a.pem ;\n# ssl_certificate /b;\nssl_certificate_key /k;\n"
         self.assertEqual(of_web.named(text, "ssl_certificate"), ["/etc/nginx/x/a.pem"])
 
-    def test_a_certificate_that_freeradius_has_not_read_is_told(self):
-        self.patched(of_front.look, "certificate", lambda *_: [])
-        self.patched(freeradius, "eaps", lambda: ["mods-enabled/eap"])
-        self.patched(freeradius, "text", lambda *_: f"certificate_file = {self.put('x')}\n")
-        for begun, count in ((time.time() - 60, 1), (time.time() + 60, 0), (None, 0)):
-            self.patched(machine, "begin_of", lambda _, it=begun: it)
-            found = [(it.name, it.cure) for it in of_front.certificates()]
-            self.assertEqual(found, [("certificate-old", "systemctl restart freeradius")] * count)
-
-
-@NEEDS_ROOT
-@unittest.skipUnless(shutil.which("freeradius") and os.path.isdir("/etc/freeradius/3.0"),
-                     "freeradius is missing")
-class Tested(Folder):
-    def setUp(self):
-        super().setUp()
-        os.chmod(self.folder, 0o711)
-
-    def test_a_test_of_freeradius_runs_its_code_as_its_user(self):
-        """Its user may write the files, and so what root would run."""
-        out = os.path.join(self.folder, "out")
-        os.mkdir(out)
-        os.chmod(out, 0o777)
-        self.put(f'open F, ">", "{out}/uid"; print F $<; close F; sub authorize {{ 0 }} 1;\n',
-                 mode=0o644)
-        module = f"perl zz {{\n\tfilename = {self.path}\n}}\n"
-        front.trial([steps.File(freeradius.path("mods-enabled", "zz"), module)]).do()
-        with open(os.path.join(out, "uid"), encoding="ascii") as file:
-            self.assertEqual(int(file.read()), steps.ids(places.RADIUS_USER, "root")[0])
-
-    def test_a_copy_is_tried_and_not_what_it_is_of(self):
-        """A name from the root, as in a link that an administrator made, is that of the copy."""
-        own, link = (freeradius.path(it) for it in ("mods-config/zz", "mods-enabled/zz"))
-        for text, is_right in (("always zz {\n}\n", True), ("always {\n", False)):
-            trial = front.trial([steps.File(own, text), steps.Link(link, own)])
-            if is_right:
-                trial.do()
-            else:
-                self.assertRaisesRegex(steps.Failed, "none was changed", trial.do)
-            self.assertFalse(os.path.lexists(own) or os.path.lexists(steps.TRIAL))
-
-    def test_each_secret_is_read_as_it_is(self):
-        """One of an access server that reported to radacctd may have marks, braces and dollars."""
-        one = wanted(access_server=[{"name": "lobby", "address": "10.9.9.1", "vendor": "openwrt"}])
-        for secret in ("a${b}c", "$ENV{HOME}", "a{b", "}", "it's {", 'a "b"', "it's"):
-            known = {"lobby": {"address": "10.9.9.1", "secret": secret}}
-            text = front.clients(None, one, None, known)
-            self.assertEqual(front.clients(text, one, None, known), text, secret)
-            found = freeradius.blocks("client", text) + freeradius.blocks("home_server", text)
-            self.assertEqual([freeradius.value(it[1], "secret") for it in found
-                              if "radacctd-setup" not in it], [secret, secret])
-            path = freeradius.path("clients.conf")
-            front.trial([steps.File(path, lambda old, more=text: f"{old}\n{more}")]).do()
-        with self.assertRaisesRegex(steps.Failed, "the secret of lobby"):
-            known = {"lobby": {"address": "10.9.9.1", "secret": "it's ${b}"}}
-            front.clients(None, one, None, known)
-
-    def test_a_copy_has_nothing_that_root_alone_may_read(self):
-        """Its user may let a name lead elsewhere while the copy is made."""
-        raddb = os.path.join(self.folder, "raddb")
-        self.patched(places, "RADDB", raddb)
-        self.patched(freeradius, "test", lambda: ["true"])
-        for name, mode in (("open", 0o644), ("shut", 0o600)):
-            self.put(name, raddb, name, mode=mode)
-        seen = []
-        look = lambda it: seen.extend(os.listdir(os.path.dirname(it.path)))
-        step = type("Step", (), {"path": f"{raddb}/x", "do": look})()
-        front.trial([step]).do()
-        self.assertEqual(seen, ["open"])
-
-    def test_all_of_them_do(self):
-        folder = os.path.join(ROOT, "etc", "radacctl")
-        found = subprocess.run(["grep", "-rlE", "--include=*.py", 'freeradius", "-C', folder],
-                               capture_output=True, text=True).stdout.split()
-        self.assertEqual(found, [os.path.join(folder, "freeradius.py")])
-        self.assertEqual(freeradius.test()[1:3], ["--as", places.RADIUS_USER])
-
 
 @NEEDS_ROOT
 @unittest.skipUnless(shutil.which("nginx") and not steps.look.run("nginx", "-t")[0],
@@ -588,11 +294,11 @@ class Ends(unittest.TestCase):
     def test_a_run_that_was_killed_before_its_copy_makes_it(self):
         one = wanted()
         for changes, is_tried, is_copied, names in (
-            (True, True, True, ["Proof"]), (True, False, False, ["Proof", "Command"]),
-            (False, True, False, ["Command"]), (False, False, True, ["Proof"]),
+            (True, True, True, ["Step"]), (True, False, False, ["Step", "Command"]),
+            (False, True, False, ["Command"]), (False, False, True, ["Step"]),
             (False, True, True, []),
         ):
-            with mock.patch.object(setup.proof.Proof, "is_done", lambda _, it=is_tried: it), \
+            with mock.patch.object(setup.os.path, "exists", lambda _, it=is_tried: it), \
                     mock.patch.object(setup, "has_copy", lambda it=is_copied: it):
                 found = setup.ends(["a step"] * changes, one)
             self.assertEqual([type(it).__name__ for it in found], names)
@@ -603,8 +309,9 @@ class Ends(unittest.TestCase):
             trial, lock = os.path.join(folder, "trial"), os.path.join(folder, "lock")
             os.makedirs(os.path.join(trial, "raddb"))
             with mock.patch.object(steps, "TRIAL", trial), mock.patch.object(setup, "LOCK", lock), \
-                    mock.patch.object(setup, "remove"), mock.patch.object(os, "umask"):
-                self.assertEqual(setup.main(["--remove", "--dry-run"]), 0)
+                    mock.patch.object(setup, "do"), mock.patch.object(os, "umask"), \
+                    mock.patch.object(setup.answers, "read"):
+                self.assertEqual(setup.main(["--dry-run", "site.toml"]), 0)
             self.assertFalse(os.path.exists(trial))
 
     def test_a_copy_is_looked_for_where_nights_make_it(self):
@@ -612,58 +319,6 @@ class Ends(unittest.TestCase):
                                (["2026-11-28"], True)):
             with mock.patch.object(setup.copies, "place", lambda it=names: ("/mnt", it)):
                 self.assertEqual(setup.has_copy(), is_done)
-
-
-class TakenOut(Folder):
-    """`setup --remove` that is given again finishes what was begun."""
-
-    def setUp(self):
-        super().setUp()
-        self.given = []
-        self.patched(places, "RADDB", self.folder)
-        self.patched(steps, "given", lambda words, **_: self.given.append(" ".join(words)) or "")
-        self.patched(steps, "MARKS", os.path.join(self.folder, "marks"))
-        self.patched(steps.look, "properties", lambda *_: {})
-        self.patched(sql, "ENDED", self.put("", "ended"))
-        self.patched(away, "drain", lambda: self.given.append("drain"))
-        for name in ("servers", "rest"):
-            self.patched(away, name, lambda: [])
-        self.patched(away, "units", lambda: [os.path.join(self.folder, "radacctd-mirror.service")])
-
-    def removed(self):
-        with contextlib.redirect_stdout(io.StringIO()):
-            away.remove()
-
-    def test_freeradius_is_restarted_before_the_queue_is_looked_at(self):
-        """Else it would go on to queue reports, and nobody would read them once it is gone."""
-        self.put("", "sites-enabled", "radacctd")
-        for is_fresh in (False, True):
-            self.given.clear()
-            with mock.patch.object(steps.Fresh, "is_done", lambda _, it=is_fresh: it):
-                self.removed()
-            before = self.given[: self.given.index("drain")]
-            self.assertEqual("systemctl restart freeradius.service" in before, not is_fresh)
-
-    def test_the_last_file_is_a_trace_of_it(self):
-        self.assertEqual(away.listed(), [])
-        for path in away.units():
-            self.put("", path)
-            self.assertTrue(any(path in it for it in away.listed()))
-            os.remove(path)
-
-    def test_what_reads_the_mirror_is_stopped_before_it(self):
-        for path in away.units():
-            self.put("", path)
-        with mock.patch.object(steps.Fresh, "is_done", lambda _: True):
-            self.removed()
-        found = [it for it in self.given if re.search(" (disable|stop) ", it)]
-        self.assertEqual(found, ["systemctl stop radacctd-mirror.service",
-                                 "systemctl disable radacctd-mirror.service"])
-
-    def test_sessions_that_freeradius_opens_now_are_ended_by_a_later_set_up(self):
-        with mock.patch.object(steps.Fresh, "is_done", lambda _: True):
-            self.removed()
-        self.assertFalse(os.path.exists(sql.ENDED))
 
 
 if __name__ == "__main__":

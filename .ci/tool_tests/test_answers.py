@@ -1,12 +1,9 @@
 """Answers that would be taken wrong in silence, and what is typed at an access server."""
 
 import subprocess
-import tomllib
 import unittest
-from unittest import mock
 
-from radacctl import freeradius
-from radacctl.setup import answers, devices, pair
+from radacctl.setup import answers, devices
 
 PLAN = {"class": "default", "block": 1000, "unit": 5}
 # What an operator may write for an address, and no machine has.
@@ -79,14 +76,6 @@ class Typed(unittest.TestCase):
             self.assertIn("answers no login", lines[0])
             self.assertEqual(lines[0][:2] in ("# ", "! "), vendor in devices.MARKS, vendor)
             self.assertNotIn("answers no login", self.text(vendor, "x"))
-
-    def test_the_other_machine_is_not_reached_at_this_ones_address(self):
-        wanted = answers_of(server="10.0.0.5", pair={"own": "10.9.0.5", "other": "10.9.0.6"})
-        config = mock.Mock(keys={}, pair_secret="e" * 32)
-        config.clients = {it: {"secret": it * 4} for it in ("freeradius", "books")}
-        with mock.patch.object(freeradius, "text", lambda *_: ""):
-            found = answers.Answers(tomllib.loads(pair.text(wanted, config)))
-        self.assertEqual((found.server, found.pair["own"]), ("", "10.9.0.6"))
 
 
 if __name__ == "__main__":

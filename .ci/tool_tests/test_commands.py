@@ -9,8 +9,8 @@ import tomllib
 import unittest
 from unittest import mock
 
-from radacctl import configuration, debits, desk, files, keys, main, names, stock
-from radacctl.commands import allow, debit, key, sell
+from radacctl import configuration, debits, desk, files, keys, main, stock
+from radacctl.commands import debit, key, sell
 from tool_tests import ROOT, Folder
 
 CONFIG = '''# A site.
@@ -133,16 +133,6 @@ class Debits(unittest.TestCase):
             self.assertRaises(stock.Fault, debits.Journal, path)
             journal.close()
             debits.Journal(path).close()
-
-
-class UsualDesk(unittest.TestCase):
-    def test_the_tools_of_a_pair_sell_in_both_books(self):
-        """By the outbox: a sale at a desk of a pair is in one book only."""
-        sales = (allow, ["x", "--month", "2026-12"]),
-        for path, port in (("/nonexistent", 8066), (__file__, 8067)):
-            with mock.patch.object(desk, "PAIR", path):
-                found = {it.parser().parse_args(words).port for it, words in sales}
-                self.assertEqual((found, desk.usual()), ({port}, ("127.0.0.1", port)))
 
 
 class Answers(unittest.TestCase):

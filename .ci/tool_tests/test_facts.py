@@ -11,98 +11,7 @@ import unittest
 from unittest import mock
 
 from radacctl import desk, files, money, names, plans
-from radacctl.doctor import front
-from tool_tests import ROOT, script
-
-
-class Planted(unittest.TestCase):
-    def test_each_fault_of_access_servers_still_fits(self):
-        """interop/access-servers and random-reports end at the first one that does not."""
-        faults = []
-        for path in ("access_servers/faults", "random.faults"):
-            with open(os.path.join(ROOT, "interop", path), encoding="utf-8") as file:
-                faults += re.split(r"\n(?=fault  )", file.read())[1:]
-        self.assertGreater(len(faults), 60)
-        for fault in faults:
-            [name, old] = re.search(r"(?s)\nfile   (.*?)\nold    (.*?)\nnew    ", fault).groups()
-            with open(os.path.join(ROOT, "etc", "freeradius", name), encoding="utf-8") as file:
-                self.assertEqual(file.read().count(old), 1, fault)
-
-
-class Expansions(unittest.TestCase):
-    def test_no_function_gets_what_another_one_gives_and_nothing_else(self):
-        """FreeRADIUS would read old memory behind it, and might lose it."""
-        alone = re.compile(r"%\{\w+:%\{(?!(?:request|reply|control):)\w+:(?:[^{}]|\{[^{}]*\})*\}\}")
-        self.assertTrue(alone.search("%{base64tohex:%{base64:&User-Name}}"))
-        self.assertTrue(alone.search("%{tolower:%{config:radacctd.realms}}"))
-        found = []
-        for folder, _, names in os.walk(os.path.join(ROOT, "etc")):
-            for name in names:
-                with open(os.path.join(folder, name), encoding="utf-8", errors="replace") as file:
-                    found += alone.findall(file.read())
-        self.assertEqual(found, [])
-
-    def test_nothing_for_perl_ends_with_what_may_be_empty(self):
-        """FreeRADIUS reads on behind a text that ends with a space, and gives old memory as words."""
-        inner = r"(?:[^{}]|\{(?:[^{}]|\{(?:[^{}]|\{[^{}]*\})*\})*\})*"
-        perl = re.compile(r"%\{radacctd_(?:queue|logins):(" + inner + r")\}")
-        # A whole record, a name, an address, and what has another value in its place.
-        full = re.compile(r"%\{control:Tmp-String-[15]\}|\$\{radacctd\.source\}|%\{.*:-0\}|(?:[A-Za-z0-9-]+)?=.*")
-        found = []
-        for name in ("policy", "devices", "server"):
-            with open(os.path.join(ROOT, "etc/freeradius", name), encoding="utf-8") as file:
-                found += [it.split()[-1] for it in perl.findall(file.read())]
-        self.assertGreater(len(found), 8)
-        # Behind a record a second one begins with its own space.
-        found = [it.removesuffix("%{control:Tmp-String-2}") for it in found]
-        self.assertEqual([it for it in found if not full.fullmatch(it)], [])
-
-    def test_no_condition_compares_what_two_expansions_give(self):
-        """Two texts of digits are numbers to FreeRADIUS, and all long ones the same number."""
-        both = re.compile(r'"[^"\n]*%\{[^"\n]*" [!=]= "[^"\n]*%\{[^"\n]*"')
-        self.assertTrue(both.search('"%{control:Tmp-String-2}" != "%{hex:&User-Name}"'))
-        found = []
-        for name in ("freeradius/policy", "freeradius/devices", "freeradius/server", "pair/pair-server"):
-            with open(os.path.join(ROOT, "etc", name), encoding="utf-8") as file:
-                found += both.findall(file.read())
-        self.assertEqual(found, [])
-
-
-class Digests(unittest.TestCase):
-    """What a session's id has of its user, as FreeRADIUS 3.2.1 has computed it."""
-
-    FOUND = {b"al": "ce263fcfac8b90511f9a30001fa8ae33", b"A\\B": "9e56abb89906967b2bc91e11a4246115",
-             b"DOM\\nick": "0aa9bba5e9fb22b3f624dd4acd7e4543",
-             b"DOM\\rick": "ec383567c082574bc029c4ae757340c4",
-             b"DOM\\tom": "60c860d7bb3a72e3618548d79318ceaa",
-             b"a\\101": "712cbef4120e9a5b3372705fd950719d",
-             b"CORP\\18923": "1eece7e8e764fef38108f28e1d232648",
-             b"CORP\\000123": "e68074376d624cb2a2a34ff82bf48c54",
-             b"CORP\\900": "563306748ed5a84e62539dedd472806b",
-             b"al\\": "", b"al\\\\": "5216d45dbb2341bc733546a51b46e8ea", b"al\\\0x": ""}
-
-    def test_who_moves_keeps_the_ids_of_open_sessions(self):
-        """Else a session that is open then would be charged twice."""
-        moved = script("interop", "from-radacct")
-        for name, digest in self.FOUND.items():
-            found = moved.Reader.identifier(mock.Mock(), "10.0.0.1", b"S", name)
-            self.assertEqual(found, f"10.0.0.1/S/{digest}".encode())
-
-
-class Devices(unittest.TestCase):
-    def test_counts_are_sizes_and_moments_are_times(self):
-        with tempfile.TemporaryDirectory() as folder:
-            for kind in ("wrapped", "login", "report", "of-a-later-version"):
-                path = os.path.join(folder, f"radacctd-device.{kind}.10.0.0.1")
-                files.make(path, b"..")
-                os.utime(path, (7, 7))
-            counts = script("etc/freeradius", "front-counts")
-            found = list(counts.devices(os.path.join(folder, "radacctd-queue")))
-        self.assertEqual([(name, value) for name, _, value in found],
-                         [("radacctd_device_login_time_seconds", 7),
-                          ("radacctd_device_report_time_seconds", 7),
-                          ("radacctd_device_wrapped_reports", 2)])
-        self.assertLessEqual({name for name, *_ in found}, set(counts.HELP))
+from tool_tests import ROOT
 
 
 class Names(unittest.TestCase):
@@ -321,28 +230,6 @@ class Files(unittest.TestCase):
             self.assertEqual(files.read(os.path.join(folder, "file")), b"one")
             for name in ("link", "pipe"):
                 self.assertRaises(OSError, files.read, os.path.join(folder, name))
-
-
-class States(unittest.TestCase):
-    """What the queue's writer says is wrong is counted, raised, and explained."""
-
-    def text(self, *names):
-        with open(os.path.join(ROOT, *names), encoding="utf-8") as file:
-            return file.read()
-
-    def test_each_has_its_places(self):
-        writer = self.text("etc", "freeradius", "queue.pl")
-        written = set(re.findall(r'\bmark\("(\w+)"', writer))
-        written.update(re.findall(r'(?m)^    "(\w+)" => \["', writer))
-        counted = re.search(r"^STATES = \((.*)\)$", self.text("etc", "freeradius", "front-counts"),
-                            re.MULTILINE)[1]
-        raised = re.findall(r'radacctd_queue_state\{state=~?"([\w|]+)"\}',
-                            self.text("etc", "monitoring", "radacctd.rules.yml"))
-        page = re.findall(r"`radacctd-queue\.(\w+)`", self.text("docs", "FREERADIUS.md"))
-        places = {"counts": re.findall(r"\w+", counted), "doctor": front.STATES, "page": page,
-                  "alerts": "|".join(raised).split("|")}
-        for place, found in places.items():
-            self.assertEqual(sorted(found), sorted(written), place)
 
 
 if __name__ == "__main__":

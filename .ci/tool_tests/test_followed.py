@@ -13,18 +13,13 @@ sys.path.insert(0, os.path.join(ROOT, "interop"))
 
 import desk_page
 import install_page
-import pair_page
+import page_steps
 
 # A page, a part of it, all of its steps, and those with commands that a script types.
 STEPS = (
-    ("FREERADIUS", "Set it up", 9, {1, 8, 9}),
     ("SITE", "Add a plan", 4, {1, 2, 3, 4}),
-    ("PAIR", "Set it up", 12, {2, 3, 4, 5, 6, 7, 8, 9, 11}),
-    ("PAIR", "Restore a lost book", 7, {1, 3, 4, 5, 6, 7}),
-    ("PAIR", "Add a plan", 3, {2}),
-    ("PAIR", "Start it again", 3, {1, 2, 3}),
     ("FORWARD", "Run it", 6, {1, 2, 3, 4, 5, 6}),
-    ("FORWARD", "Late reports", 4, {2}),
+    ("FORWARD", "Late reports", 3, {2}),
     ("FORWARD", "Two books of the same reports", 4, {3}),
     ("GONE", "Restore the site", 9, {1, 2, 3, 4, 5, 6, 7, 8}),
 )
@@ -44,12 +39,12 @@ class Followed(unittest.TestCase):
         for page, title, count, typed in STEPS:
             with self.subTest(f"{page}, {title}"):
                 path = os.path.join(ROOT, "docs", f"{page}.md")
-                found = pair_page.steps(pair_page.section(path, title))
+                found = page_steps.steps(page_steps.section(path, title))
                 self.assertEqual(sorted(found), list(range(1, count + 1)))
                 self.assertEqual(typed - {it for it in found if found[it]}, set())
 
     def test_site(self):
-        part = pair_page.section(os.path.join(ROOT, "docs", "SITE.md"),
+        part = page_steps.section(os.path.join(ROOT, "docs", "SITE.md"),
                                  "Change clients and keys while the server runs")
         lines = re.findall(r"(?m)^ {4}(\S.*)$", part)
         self.assertEqual(first_words(lines), ["cd", "cp", "editor", "radacctd", "mv", "journalctl"])

@@ -9,9 +9,6 @@ import unittest
 
 from tool_tests import ROOT
 
-from radacctl.doctor import machine
-from radacctl.setup import pair
-
 # What shuts a service in. radacctd.service has all of it, and each other one as much but for these.
 SHUT_IN = """NoNewPrivileges SystemCallArchitectures SystemCallErrorNumber MemoryDenyWriteExecute
     LockPersonality RestrictNamespaces RestrictRealtime RestrictSUIDSGID KeyringMode ProtectSystem
@@ -22,16 +19,8 @@ ADD_UP = ("SystemCallFilter", "CapabilityBoundingSet")
 # Root's: it works in folders of other users, as these, and looks at their processes.
 ROOTS = {"PrivateUsers", "ProcSubset", "RemoveIPC", "CapabilityBoundingSet", "SystemCallFilter"}
 EXCEPTIONS = {
-    # It gives systemd an order, reads /proc/stat, and has no right and no network.
-    "radacctd-clock.service": {"PrivateUsers", "ProcSubset", "RemoveIPC", "ProtectProc"},
-    # A group reads what it writes.
-    "radacctd-compare.service": {"UMask"},
     "radacctd-faults.service": ROOTS | {"ProtectProc"},
     "radacctd-forward.service": ROOTS,
-    # Everybody reads the counts. FreeRADIUS has the same user: what it shares is not to be removed.
-    "radacctd-front.service": {"UMask", "PrivateUsers", "RemoveIPC"},
-    # The same. It reads which boot this is from /proc/sys.
-    "radacctd-mirror.service": {"PrivateUsers", "RemoveIPC", "ProcSubset"},
     "radacctd-key.service": ROOTS | {"ProtectProc"},
     # A command of the site, where the site says.
     "radacctd-nightly.service": ROOTS | {"ProtectSystem", "ProtectHome"},
@@ -107,16 +96,6 @@ class Installation(unittest.TestCase):
         self.assertRegex(done.stderr, "Then install this package again.*systemctl enable --now "
                                       "radacctd.*\n.*radacctl setup")
 
-    def test_a_pairs_tools_are_where_its_units_run_them(self):
-        """With each prefix: bin/install writes it into no part of radacctl."""
-        runs = set()
-        for path in glob.glob(os.path.join(ROOT, "etc", "pair", "*.service")):
-            runs |= {it for it in re.findall(r"(?m)^ExecStart=(\S+)", text(path))
-                     if it.endswith(pair.TOOLS)}
-        self.assertEqual(runs, {f"/usr/local/sbin/{it}" for it in pair.TOOLS})
-        self.assertEqual(len(set(machine.SCRIPTS) & runs), 1)
-        self.assertIn('put_folder etc/radacctl "$libexec/radacctl"', text("bin", "install"))
-
 
 class Purge(unittest.TestCase):
     """It removes the folder of the balances, unless something else is in there."""
@@ -132,40 +111,6 @@ class Purge(unittest.TestCase):
             script = script.replace("[ -d /run/systemd/system ]", "false")
             subprocess.run(["sh", "-c", script, "postrm", "purge"], check=True)
             self.assertEqual(os.listdir(folder), [])
-
-
-class Removal(unittest.TestCase):
-    """While FreeRADIUS has links into the package, nothing is removed."""
-
-    def test_what_would_not_start_again_is_told(self):
-        script = text("etc", "package", "prerm").replace("@ALL_UNITS@", "").replace("@UNITS@", "")
-        with tempfile.TemporaryDirectory() as folder:
-            script = script.replace("/etc/", f"{folder}/etc/").replace("/var/lib", folder)
-            script = script.replace("/run/systemd", f"{folder}/none")
-            script = re.sub(r"/usr/s?bin/", f"{folder}/", script)
-            places = {"FreeRADIUS": ("freeradius/3.0/policy.d/radacctd", "freeradius/own")}
-            for name in (it for both in places.values() for it in both):
-                os.makedirs(os.path.dirname(os.path.join(folder, "etc", name)), exist_ok=True)
-            run = lambda act: subprocess.run(["sh", "-c", script, "prerm", act], text=True,
-                                             capture_output=True)
-            self.assertEqual(run("remove").returncode, 0)
-            for program, (who, names) in zip(("freeradius",), places.items()):
-                path, own, program = (os.path.join(folder, it) for it in (
-                    *(f"etc/{it}" for it in names), program))
-                for it in (own, program):
-                    with open(it, "w", encoding="ascii") as file:
-                        file.write("server {\n}\n")
-                # Who was removed before starts no more: its links are in nobody's way.
-                for target, mode, status in (("/usr/share/radacctd/x", 0o755, 1),
-                                             ("/usr/share/radacctd/x", 0o644, 0),
-                                             ("/usr/local/share/x", 0o755, 0)):
-                    os.symlink(target, path)
-                    os.chmod(program, mode)
-                    done = run("remove")
-                    self.assertEqual((done.returncode, who in done.stderr), (status, bool(status)))
-                    self.assertEqual(run("upgrade").returncode, 0)
-                    os.remove(path)
-                os.remove(own)
 
 
 class CutOff(unittest.TestCase):

@@ -1,8 +1,6 @@
 """What a set-up does to a site that was edited, killed, filled up, or never meant for it."""
 
-import contextlib
 import errno
-import io
 import json
 import os
 import shutil
@@ -11,9 +9,9 @@ import subprocess
 import unittest
 from unittest import mock
 
-from radacctl import files, freeradius, money as moneys, site as places
-from radacctl.commands import allow, debit, setup, site
-from radacctl.setup import alone, answers, away, front, pair, proof, sql, steps, web
+from radacctl import files, money as moneys, postgres, site as places
+from radacctl.commands import allow, setup, site
+from radacctl.setup import alone, answers, steps, web
 import tool_tests
 
 PLAN = {"class": "default", "block": 1000, "unit": 5}
@@ -88,21 +86,6 @@ class Site(Folder):
     def wanted(self, **more):
         return answers.Answers({"plan": [PLAN], **more})
 
-    def test_another_address_of_a_client_is_told(self):
-        one = {"name": "a", "address": "10.0.0.1", "vendor": "mikrotik"}
-        text = front.clients(None, self.wanted(access_server=[one]))
-        other = self.wanted(access_server=[{**one, "address": "10.0.0.2"}])
-        self.assertRaisesRegex(steps.Failed, "10.0.0.1, not 10.0.0.2", front.clients, text, other)
-
-    def test_the_other_machine_of_a_pair_takes_a_secret_of_the_sites_own(self):
-        for secret in ("of wlc1", 'of "wlc1"', "it's # wlc1"):
-            wanted = self.wanted(access_server=[{"name": "wlc", "address": "10.0.0.1"}],
-                                 secrets={"client-wlc": secret})
-            found = freeradius.blocks("client", front.clients(None, wanted))
-            self.assertEqual(freeradius.value(dict(found)["wlc"], "secret"), secret)
-        for secret in ("", "two\nlines", "a\\b", "it's \"wlc1\""):
-            self.assertRaises(answers.Wrong, self.wanted, secrets={"client-wlc": secret})
-
     def test_radacctd_listens_where_access_servers_report_to(self):
         """Without FreeRADIUS it is radacctd itself that they reach, also where a site has chosen."""
         one = {"name": "lobby", "address": "10.0.0.1"}
@@ -120,16 +103,10 @@ class Site(Folder):
         self.assertNotIn("BIND", alone.defaults(None, self.wanted(server="10.0.0.5")))
 
     def test_radacctd_listens_where_freeradius_sends_to(self):
-        """A site may have changed the port: by another one no report would reach the book."""
-        with mock.patch.object(freeradius, "text", lambda *_: ""):
-            self.assertEqual(alone.defaults(None, self.wanted()), "RADACCTD_RADIUS_PORT=11813\n")
-        with mock.patch.object(freeradius, "text", lambda *_: "radacctd {\n\tport = 21813\n}\n"):
-            for text in ("RADACCTD_RADIUS_PORT=21813\n", '# 1\nRADACCTD_RADIUS_PORT="21813"\n'):
-                self.assertEqual(alone.defaults(text, self.wanted()), text)
-        for port in ("1813", "11813; x", "${x}"):
-            text = f"radacctd {{\n\tport = {port}\n}}\n"
-            with mock.patch.object(freeradius, "text", lambda *_, it=text: it):
-                self.assertEqual(alone.defaults("", self.wanted()), "RADACCTD_RADIUS_PORT=11813\n")
+        """A site may have chosen another port: that of the front's settings is made of it."""
+        self.assertEqual(alone.defaults(None, self.wanted()), "RADACCTD_RADIUS_PORT=11813\n")
+        for text in ("RADACCTD_RADIUS_PORT=21813\n", '# 1\nRADACCTD_RADIUS_PORT="21813"\n'):
+            self.assertEqual(alone.defaults(text, self.wanted()), text)
         # And where access servers do, once FreeRADIUS is out.
         one = self.wanted(freeradius=False, server="10.0.0.5")
         self.assertEqual(alone.defaults('RADACCTD_BIND="--bind 10.1.0.5 \\\n --bind 10.1.0.6"\n'
@@ -137,45 +114,12 @@ class Site(Folder):
                          'RADACCTD_BIND="--bind 10.1.0.5 --bind 10.1.0.6 --bind 10.0.0.5"\n'
                          "RADACCTD_RADIUS_PORT=1813\n")
 
-    def test_another_usual_class_is_written(self):
-        plans = [PLAN, {**PLAN, "class": "gold"}]
-        text = front.settings(None, self.wanted(plan=plans), "x" * 16)
-        again = front.settings(text, self.wanted(plan=plans, **{"class": "gold"}), "x" * 16)
-        self.assertEqual(again, text.replace('\tclass = "default"', '\tclass = "gold"'))
-        self.assertNotEqual(again, text)
-
-    def test_settings_of_an_earlier_version_get_what_they_lack(self):
-        old = 'radacctd {\n\tsecret = x\n\toldest = 61\n}\n'
-        text = front.settings(old, self.wanted(left_out=["vpn", "nro"]), "y" * 16)
-        self.assertEqual(text, 'radacctd {\n\tsecret = yyyyyyyyyyyyyyyy\n\toldest = 61\n'
-                         '\tclass = "default"\n\tleft_out = "vpn nro"\n}\n')
-        self.assertEqual(front.settings(text, self.wanted(), "y" * 16), text)
-
-    def test_a_line_that_a_site_has_written_otherwise_is_changed(self):
-        """FreeRADIUS reads the first one of a name: a second one would say nothing."""
-        as_site = lambda *names: files.sample(*names).replace("\t", "    ").replace(" = ", "   =  ")
-        text = front.settings(as_site("freeradius", "settings.conf"), self.wanted(), "y" * 16)
-        one = {"own": "10.9.0.5", "other": "10.9.0.6"}
-        more = pair.conf_of(as_site("pair", "pair.conf"), self.wanted(pair=one), "z" * 16)
-        for found, value in ((text, "y" * 16), (more, "z" * 16)):
-            self.assertEqual(freeradius.value(freeradius.without_comments(found), "secret"), value)
-        self.assertEqual(freeradius.value(more, "other"), "10.9.0.6")
-
-    def test_what_else_is_on_a_line_stays(self):
-        """Else logins of switches would be sold, and two secrets would be given, of one name."""
-        old = ('radacctd {\n\t# all but a, secret = b\n\tport = 11813, secret = "x" # ours\n'
-               '\tclass = "default", left_out = "switches"\n}\n')
-        text = front.settings(old, self.wanted(), "y" * 16)
-        self.assertEqual(text, old.replace('"x"', "y" * 16))
-
     def test_a_plan_whose_class_is_no_ascii_is_in_the_book(self):
         self.write("class,block,unit,count\ndefault,1,1,both\ndebit,1,1,both\n"
                    "gr%C3%B6%C3%9Fe,1,1,both\n".encode())
         with mock.patch.object(places, "PLANS", self.path):
-            wanted = self.wanted(plan=[PLAN, {**PLAN, "class": "gr\u00f6\u00dfe"}])
-            self.assertTrue(alone.plans_are_in(wanted))
-            wanted = self.wanted(plan=[PLAN, {**PLAN, "class": "gold"}])
-            self.assertFalse(alone.plans_are_in(wanted))
+            self.assertTrue(alone.plans_are_in([PLAN, {**PLAN, "class": "gr\u00f6\u00dfe"}]))
+            self.assertFalse(alone.plans_are_in([PLAN, {**PLAN, "class": "gold"}]))
 
     def test_a_configuration_of_another_form_is_told(self):
         for text in ("client = 5\n", "plan = [1]\n", "[[key]]\ncashier = true\n"):
@@ -252,13 +196,11 @@ class Site(Folder):
     def test_a_server_is_not_led_to_an_address_of_another_machine(self):
         """As that which a router shows to access servers: it would not start again."""
         one = [{"name": "a", "address": "10.0.0.1"}]
-        pair = lambda own: self.wanted(pair={"own": own, "other": "127.0.0.7"})
         alone_at = lambda it: self.wanted(freeradius=False, server=it, access_server=one)
         with mock.patch.object(places, "DEFAULTS", self.path):
-            for wanted in (pair("192.0.2.7"), alone_at("192.0.2.7")):
-                self.assertRaisesRegex(steps.Failed, "has no address 192.0.2.7", list,
-                                       alone.of(wanted, mock.Mock()))
-            for wanted in (pair("127.0.0.6"), alone_at("127.0.0.6"), self.wanted()):
+            self.assertRaisesRegex(steps.Failed, "has no address 192.0.2.7", list,
+                                   alone.of(alone_at("192.0.2.7"), mock.Mock()))
+            for wanted in (alone_at("127.0.0.6"), self.wanted()):
                 alone.refuse_if_elsewhere(wanted)
             # What a site has chosen is its own.
             for text in ("RADACCTD_BIND=--bind 0.0.0.0\n", "RADACCTD_BIND=--bind 192.0.2.7\n"):
@@ -277,34 +219,7 @@ class Site(Folder):
 
     def test_a_sample_that_is_missing_empties_no_file(self):
         with mock.patch.object(places, "shared", lambda *_: self.path):
-            for change in (lambda: web.server(self.wanted()),
-                           lambda: front.settings(None, self.wanted(), "x")):
-                self.assertRaises(OSError, change)
-
-    def test_a_secret_that_cannot_be_found_is_not_written_as_none(self):
-        with mock.patch.object(freeradius, "text", lambda *_: ""):
-            self.assertRaises(steps.Failed, front.secret_of, "lobby")
-
-
-@NEEDS_ROOT
-@unittest.skipUnless(shutil.which("freeradius") and os.path.isdir("/etc/freeradius/3.0"),
-                     "freeradius is missing")
-class Trying(Folder):
-    """A fault that FreeRADIUS finds leaves all files as they were."""
-
-    def test_a_fault_changes_nothing(self):
-        path = freeradius.path("clients.conf")
-        before = self.read(path)
-        for more, is_right in (("client x {\n}\n", False), ("# right\n", True)):
-            step = steps.File(path, lambda old, more=more: old.replace("# right\n", "") + more)
-            trial = front.trial([step])
-            self.assertFalse(trial.is_done())
-            if is_right:
-                trial.do()
-            else:
-                self.assertRaisesRegex(steps.Failed, "none was changed", trial.do)
-            self.assertEqual(self.read(path), before)
-        self.assertFalse(os.path.exists(steps.TRIAL))
+            self.assertRaises(OSError, lambda: web.server(self.wanted()))
 
 
 @NEEDS_ROOT
@@ -360,59 +275,6 @@ class Persons(unittest.TestCase):
             self.assertEqual(told(), [])
 
 
-class Once(Folder):
-    """A file with secrets that a person took away is not written again, unless it is another."""
-
-    @NEEDS_ROOT
-    def test_it_is_written_once(self):
-        found = {"text": "one\n"}
-        with mock.patch.object(pair, "WRITTEN", self.path + ".written"):
-            step = pair.Once(self.path, lambda _: found["text"], 0o600)
-            for text in ("one\n", "two\n"):
-                found["text"] = text
-                self.assertFalse(step.is_done())
-                step.do()
-                self.assertEqual(self.read(), text.encode())
-                self.assertTrue(step.is_done())
-                os.remove(self.path)
-                self.assertTrue(step.is_done())
-
-
-class Proving(unittest.TestCase):
-    """What an earlier run left is taken, or put right, and a run that fails takes back its own."""
-
-    def proof(self, *balances):
-        it = proof.Proof(answers.Answers({"plan": [PLAN], "freeradius": False}))
-        left = list(balances)
-        it.balance = lambda: left.pop(0) if len(left) > 1 else left[0]
-        it.wait_for_balances, it.wait = mock.Mock(), mock.Mock()
-        it.sell = mock.Mock()
-        return it
-
-    def run_it(self, it):
-        with mock.patch.object(steps, "given") as given, mock.patch.object(files, "replace"):
-            with mock.patch.object(files, "sync_folder"), mock.patch.object(files, "remove"):
-                with contextlib.redirect_stdout(io.StringIO()):
-                    try:
-                        it.do()
-                    except steps.Failed as why:
-                        return given, why
-        return given, None
-
-    def test_too_much_was_taken(self):
-        it = self.proof(-5, 0, 15)
-        given, why = self.run_it(it)
-        self.assertIsNone(why)
-        self.assertEqual(it.sell.call_args_list[0], mock.call(5))
-
-    def test_what_fails_is_taken_back(self):
-        it = self.proof(0, 0, 15)
-        it.wait.side_effect = [steps.Failed("no sale"), None]
-        given, why = self.run_it(it)
-        self.assertEqual(str(why), "no sale")
-        self.assertEqual(given.call_args[0][0][1:4], ["debit", proof.ACCOUNT, "15"])
-
-
 class Others(Folder):
     def test_a_card_outlives_a_power_cut(self):
         with mock.patch("os.fsync") as fsync:
@@ -422,14 +284,16 @@ class Others(Folder):
     def test_a_password_is_in_no_command_line(self):
         for text in ("dbname=radius password=hidden", "postgresql://radius:hidden@db/radius"):
             text = f'dialect = "postgresql"\nradius_db = "{text}"\n'
-            with mock.patch.object(freeradius, "text", lambda *_, it=text: it), \
+            with mock.patch.object(files, "text", lambda *_, it=text: it), \
                     mock.patch.object(subprocess, "run") as run, \
-                    mock.patch.object(site, "say"), contextlib.redirect_stdout(io.StringIO()):
+                    mock.patch.object(site, "say"), mock.patch.object(os, "makedirs"):
                 site.dump_sql()
-                sql.end_sessions()
             self.assertEqual(run.call_count, 0)
-        text = 'server = "db"\nlogin = "radius"\npassword = "a:b\\c"\nradius_db = "radius"\n'
-        with freeradius.postgres(text) as (begin, options):
+        text = ('# dialect = "x"\ndriver = "rlm_sql_postgresql", dialect = "postgresql"\n'
+                'server = "db"\nlogin = "radius", password = "a:b\\c", radius_db = radius\n')
+        with mock.patch.object(files, "text", lambda _: text):
+            found = postgres.settings()
+        with postgres.connection(found) as (begin, options):
             self.assertEqual(options, ["-h", "db", "-U", "radius", "-d", "radius"])
             path = begin[1].partition("=")[2]
             self.assertEqual(stat.S_IMODE(os.stat(path).st_mode), 0o600)
@@ -443,7 +307,6 @@ class Others(Folder):
                        b'account,sum,number,code\n"a"\rb,c,d\n', b"code\ra\rb"):
             self.write(octets)
             wrong = allow.names.WrongFile
-            self.assertRaises(wrong, debit.debits_of, self.path)
             self.assertRaises(wrong, allow.rows_of, self.path, "2026-12", 5, moneys.Money())
 
 

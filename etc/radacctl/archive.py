@@ -120,8 +120,8 @@ class Archive:
     """An archive that is being written."""
 
     def __init__(self, path):
-        # The digest of each file, the name of all, and of folders whose content is not copied.
-        self.digests, self.names, self.empty = {}, set(), []
+        # The digest of each file, and the name of all.
+        self.digests, self.names = {}, set()
         handle = os.open(path, os.O_WRONLY | os.O_CREAT | os.O_EXCL | os.O_NOFOLLOW, 0o600)
         self.file = os.fdopen(handle, "wb")
         self.tar = tarfile.open(fileobj=self.file, mode="w:gz", format=tarfile.PAX_FORMAT)
@@ -177,21 +177,6 @@ class Archive:
             it.size = status.st_size
             self.add_content(it, file)
 
-    def add_empty(self, path):
-        """The folders of a folder, without what is in them: their names."""
-        if not os.path.isdir(path):
-            return []
-        with opened(path) as top:
-            for above, names, _, folder in os.fwalk(".", dir_fd=top, follow_symlinks=False):
-                # Debian's own folders have the address of an access server as their name.
-                names[:] = [it for it in names if it.startswith(("radacctd", "s"))]
-                it = member(os.path.normpath(os.path.join(path, above)), os.fstat(folder))
-                it.type = tarfile.DIRTYPE
-                if it.name not in self.names:
-                    self.empty.append(it.name)
-                    self.add(it)
-        return self.empty
-
     def end(self, summary):
         summary["digests"] = self.digests
         it = tarfile.TarInfo(SUMMARY)
@@ -237,7 +222,6 @@ class Restoring:
         self.tar = tarfile.open(path, "r:gz")
         self.heads = [it for it in self.tar if it.name != SUMMARY]
         self.places = [it.lstrip("/") for it in summary["places"]]
-        self.empty = set(summary["empty"])
         self.stamp = time.strftime("%Y%m%d-%H%M%S")
         self.kept = []
         self.test_users()
@@ -266,12 +250,8 @@ class Restoring:
     def run(self):
         for place in self.places:
             heads = [it for it in self.heads if f"{it.name}/".startswith(f"{place}/")]
-            heads = [it for it in heads if it.name not in self.empty]
             if heads and not self.is_there(heads):
                 self.put_place(place, heads)
-        for it in self.heads:
-            if it.name in self.empty:
-                self.put_empty(it)
         for path in self.kept:
             print(f"what was there is in {path}")
 
@@ -311,15 +291,6 @@ class Restoring:
         for it in reversed(folders):
             with opened("/" + it.name) as folder:
                 self.give(folder, it)
-
-    def put_empty(self, it):
-        """Makes a folder, if it is not there."""
-        above, name = os.path.split("/" + it.name)
-        make_above(above)
-        with opened(above) as folder, contextlib.suppress(FileExistsError):
-            os.mkdir(name, 0o700, dir_fd=folder)
-        with opened("/" + it.name) as folder:
-            self.give(folder, it)
 
     def put(self, folder, it):
         name = os.path.basename(it.name)

@@ -16,12 +16,10 @@ TOKEN_RULE = "16 to 64 of A-Z a-z 0-9 and -"
 # An account as the desk takes it: plain characters, and % with two digits for any other octet.
 ACCOUNT = re.compile("(?:[ -$&-~]|%[0-9A-F]{2}){1,253}")
 CASHIER_KEY = "/etc/radacctd-cashier.key"
-# The desk of a machine, and the outbox of a pair, which gives each voucher to both books; and what a
-# machine of a pair has.
-HERE, OUTBOX = ("127.0.0.1", 8066), ("127.0.0.1", 8067)
+# The desk of a machine.
+HERE = ("127.0.0.1", 8066)
 # The longest list of what an account has, in octets.
 LONGEST_LIST = 1 << 26
-PAIR = "/etc/default/radacctd-pair"
 # What became of a voucher.
 NEW, REPEAT, DIFFERS, LIMIT, NO_KEY = "new", "repeat", "differs", "limit", "no key"
 # The book could not say, or a proxy before it; and what is no answer of a desk.
@@ -40,7 +38,7 @@ class WrongKey(Failed):
 
 def usual():
     """Where this machine sells unless it is told where."""
-    return OUTBOX if os.path.exists(PAIR) else HERE
+    return HERE
 
 
 def place(text):
@@ -124,16 +122,6 @@ def keys_in(path, most, may_read=lambda status: False):
         if not TOKEN.fullmatch(line):
             raise WrongKey(f"line {at} of {path} is no key: {TOKEN_RULE}")
     return [line for _, line in named]
-
-
-def readers():
-    """Where guests' questions go, one desk after the other: in a pair both machines have a book."""
-    try:
-        with open(PAIR, encoding="ascii", errors="replace") as file:
-            found = dict(re.findall(r"(?m)^RADACCTD_(OWN|OTHER)=([0-9.]+)$", file.read()))
-    except OSError:
-        return [HERE]
-    return [(found[it], HERE[1]) for it in ("OWN", "OTHER") if it in found]
 
 
 def read(places, path, key):

@@ -77,15 +77,21 @@ def send_again(kept, now):
 
 
 def main(path):
+    said = {}
     while True:
         began = time.monotonic()
         with open(path, "rb") as file:
             site = tomllib.load(file)
-        for work in (lambda: cut(site, int(time.time())), lambda: send_again(site["kept"], time.time())):
+        for work, of in ((cut, site), (send_again, site["kept"])):
+            fault = ""
             try:
-                work()
-            except (OSError, ValueError, KeyError) as fault:
-                print(f"not done: {fault!r}", flush=True)
+                work(of, int(time.time()))
+            except (OSError, ValueError, KeyError) as why:
+                fault = f"not done: {why!r}"
+            # One that lasts is said once.
+            if fault and fault != said.get(work):
+                print(fault, flush=True)
+            said[work] = fault
         time.sleep(max(1, MINUTE - (time.monotonic() - began)))
 
 

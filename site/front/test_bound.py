@@ -1,4 +1,6 @@
-"""The front, the policies of packages, the cut-off and the pair have at most 900 lines, and no Perl."""
+"""The front, the policies of packages, the cut-off and the pair have at most 900 lines, and no Perl.
+What set them up and looks at them is counted by site/bounds.csv alone.
+"""
 import os
 import re
 import unittest
@@ -7,14 +9,15 @@ SITE = os.path.dirname(os.path.dirname(os.path.abspath(__file__)))
 MOST = 900
 # What other features have for FreeRADIUS.
 FOLDERS = ("front", "packages/raddb", "pair")
-LEFT_OUT = re.compile(r"(test_.*|live)\.py$|\.md$|\.pyc$")
+SET_UP = r"feature|setup|clients|users|proof|looks"
+LEFT_OUT = re.compile(rf"(test_.*|live|{SET_UP})\.py$|/users\.sql$|\.md$|\.pyc$")
 
 
 class Bound(unittest.TestCase):
     def files(self):
         for folder in FOLDERS:
             for root, _, names in os.walk(os.path.join(SITE, folder)):
-                yield from (os.path.join(root, it) for it in names if not LEFT_OUT.search(it))
+                yield from (os.path.join(root, it) for it in names if not LEFT_OUT.search(f"/{it}"))
 
     def test_lines(self):
         lines = {}

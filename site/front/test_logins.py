@@ -4,7 +4,6 @@ import hashlib
 import os
 import re
 import sqlite3
-import threading
 import time
 import unittest
 

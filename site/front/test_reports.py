@@ -11,7 +11,7 @@ import cut
 import test_lab as lab
 import test_radius as radius
 from test_lab import waited
-from test_radius import CLASS, ID, NAS_ADDRESS, NAS_NAME, ON, START, STATION, STATUS, STOP, USER
+from test_radius import CLASS, ID, NAS_NAME, ON, START, STATION, STATUS, STOP, USER
 
 BAD = [(42, 0xFFFFFFFF), (52, 0xFFFFFFFF)]
 

@@ -4,7 +4,7 @@
     radacctl doctor --list
 
 It looks at what this machine has: radacctd alone, behind FreeRADIUS, with pages, one of a pair. It
-changes nothing. It sends nothing to radacctd or FreeRADIUS, and asks nginx for its pages. Run it as
+changes nothing. It asks radacctd's desk with FreeRADIUS' key, and nginx for its pages. Run it as
 root.
 
 A line is `critical NAME: WHAT. Do: CURE` or `warning NAME: WHAT. Do: CURE`. --list prints each NAME
@@ -24,15 +24,13 @@ import time
 
 from radacctd_site.core import features
 from radacctl import files, program
-from radacctl.doctor import book, copies, faults, front, kind, machine, pair, web
+from radacctl.doctor import book, copies, faults, kind, machine, web
 
 SIDES = {
     "the machine": machine,
     "the configuration": book,
-    "FreeRADIUS": front,
     "the pages": web,
     "the copies": copies,
-    "the pair": pair,
 }
 
 
@@ -43,7 +41,7 @@ def parser():
 
 
 # What follows from a book that is away, and what a cure of another fault says of the server.
-FOLLOW = ("queue-waits", "mirror-old", "balances-old")
+FOLLOW = ("reports-wait", "balances-old")
 RESTART = re.compile(r"systemctl (?:re)?(?:start|stop) (?:--now )?radacctd(?:@\w+)?"
                      r"(?:\.service)?(?![\w-])")
 FIRST = "first what the line book-away says; stop and restart nothing before"
@@ -51,10 +49,14 @@ FIRST = "first what the line book-away says; stop and restart nothing before"
 LONGEST, LONGEST_COPIES = 300, 3600
 
 
+def sides():
+    return {**SIDES, **features.modules("LOOKS")}
+
+
 def found_in(site):
     """The faults of each side, and the sides that could not be looked at, with the reason."""
     found, lost = [], []
-    for name, side in {**SIDES, **features.modules("LOOKS")}.items():
+    for name, side in sides().items():
         try:
             with program.within(LONGEST_COPIES if side is copies else LONGEST):
                 for fault in side.look_at(site):

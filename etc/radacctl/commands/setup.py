@@ -2,15 +2,14 @@
 
     radacctl setup [--dry-run] [--yes] [--new-book] [FILE]
     radacctl setup --sample
-    radacctl setup --remove [--dry-run] [--yes]
 
 FILE has the answers, as TOML; without it they are asked. --sample prints such a file. It says what
 it will change, and asks; --yes asks nothing, and --dry-run changes nothing. Run it as root.
 
 It installs Debian's packages, writes the configuration with new secrets, makes the book, starts the
-service and its nights, sets FreeRADIUS up in front, and nginx with the pages. Radacctd's files for
-FreeRADIUS are links, so that an upgrade mends them. At its end it tries a sale, a login and a
-report, takes them back, and runs `radacctl doctor`.
+service and its nights, sets FreeRADIUS up in front, and nginx with the pages. FreeRADIUS gets a
+folder of its own, /etc/radacctd-front: Debian's unit is disabled, and its files stay as they are. At
+its end it tries a sale, a login and reports that use the sale up, and runs `radacctl doctor`.
 
 A second time it changes nothing. If it was killed, give it again. A file that it changes is kept
 next to it as NAME~before-DATE-TIME, with the same owner and mode. Plans, secrets and keys that are
@@ -20,10 +19,6 @@ there stay. It writes what to type at each access server, and the passwords of c
 A site that had a book, and has none now, gets no empty one, in which nobody has money: setup names
 the last copy, and changes nothing. --new-book makes an empty one.
 
---remove takes FreeRADIUS' part out again, before the package is removed, say: its lines, links and
-units. It waits until radacctd has all queued reports. FreeRADIUS and its clients stay, and radacctd
-with its book.
-
 It ends with 0 if all is done, with 1 if not, which it says, and with 2 for a bad command line or a
 wrong answer.
 """
@@ -32,10 +27,11 @@ import os
 import shutil
 import sys
 
+from radacctd_site.core import features
 from radacctl import files, program, site
 from radacctl.commands import doctor
 from radacctl.doctor import copies
-from radacctl.setup import alone, answers, away, devices, front, pair, proof, sql, steps, web
+from radacctl.setup import alone, answers, devices, steps, web
 
 SAMPLE = """\
 name = "Hotel Example"              # on pages and printed vouchers
@@ -59,14 +55,7 @@ name = "lobby"
 address = "10.0.0.1"
 vendor = "mikrotik"                 # or unifi, pfsense, openwrt, aruba, cisco, other
 
-# FreeRADIUS also serves others: clients of its own whose logins are left alone, and your realms.
-# left_out = ["switches", "eduroam-proxy"]
-# realms = ["campus.example"]
-
-# virtual_servers = ["default"]      # those that you sell by, if several take logins
-
-# Users of a PostgreSQL database with FreeRADIUS' own tables, in place of a file. If mods-enabled/sql
-# is there, it stays as it is. With accounting = true FreeRADIUS goes on writing radacct.
+# Users of a PostgreSQL database with FreeRADIUS' own tables, in place of a file.
 # [sql]
 # server = "db.example.org"
 # password_file = "/root/radius-password"
@@ -82,13 +71,11 @@ STOPPED = "stopped; give the same again: it goes on"
 
 
 def parser():
-    return program.parser(__doc__, "--dry-run --yes --new-book --sample --remove [FILE]")
+    return program.parser(__doc__, "--dry-run --yes --new-book --sample [FILE]")
 
 
 def packages_of(wanted):
-    parts = [(wanted.has_front, front.PACKAGES), (wanted.sql, sql.PACKAGES),
-             (wanted.host, web.PACKAGES)]
-    found = [it for is_wanted, found in parts if is_wanted for it in found]
+    found = web.PACKAGES if wanted.host else []
     return [*dict.fromkeys([*found, *of_features("packages", wanted)])]
 
 
@@ -99,18 +86,15 @@ def of_features(name, *given):
 
 
 def steps_of(wanted, config):
-    """All steps but the packages and the proof."""
+    """All steps but the packages and the tries."""
     yield from alone.of(wanted, config)
     yield from web.store(config)
     yield from of_features("files", wanted, config)
-    if wanted.has_front:
-        yield from front.of(wanted, config)
     yield from of_features("units", wanted)
-    if wanted.pair:
-        yield from pair.after(wanted, config)
     if wanted.host:
         yield from web.of(wanted)
-    yield from devices.of(wanted, config)
+    if not wanted.has_front:
+        yield from devices.of(wanted, lambda name: config.clients[name]["secret"])
 
 
 def is_wanted(words, lines):
@@ -148,15 +132,14 @@ def do(words, wanted):
     config = alone.Config(wanted)
     found = [it for it in [packages, *steps_of(wanted, config)] if not is_done(it)]
     last = ends(found, wanted)
-    for line in [*web.others(wanted), *front.others(wanted)]:
+    for line in web.others(wanted):
         print(line)
     if not found and not last:
         print("nothing is to be done")
         return 0
     if not is_wanted(words, [it.text() for it in (*found, *last)]):
         return 0
-    if any(isinstance(it, proof.Proof) for it in last):
-        files.remove(proof.DONE)
+    files.remove(alone.PROVED)
     finish(packages)
     found = list(steps_of(wanted, config))
     # What each unit has read is noted before a file is changed, be it one that was installed now.
@@ -164,25 +147,18 @@ def do(words, wanted):
         is_done(it)
     for it in [*found, *last]:
         finish(it)
+    files.replace(alone.PROVED, b"")
     print(f"What to type at access servers is in {devices.FOLDER}.")
     return doctor.main([])
 
 
-def remove(words):
-    """Takes FreeRADIUS' part out again."""
-    found = away.listed()
-    if not found:
-        print("nothing is to be done")
-    elif is_wanted(words, found):
-        away.remove()
-
-
 def ends(found, wanted):
     """What is done at the end: whatever changes is tried anew, and there is a copy."""
-    tried = proof.Proof(wanted)
+    is_proved = os.path.exists(alone.PROVED) and not found
+    tries = [] if is_proved else list(of_features("tries", wanted))
     # The copy of the first night, now: until there is one, a lost disk loses all.
     copy = steps.Command("copy the site", has_copy, "systemctl", "start", "radacctd-nightly.service")
-    return [it for it in (tried, copy) if not it.is_done() or it is tried and found]
+    return tries + [copy] * (not copy.is_done())
 
 
 def has_copy():
@@ -197,21 +173,18 @@ def main(words):
     if os.geteuid() != 0:
         program.fail("be root")
     os.umask(0o077)
-    if words.remove and words.file:
-        program.fail("--remove takes no file", 2)
     try:
-        wanted = None if words.remove else (
-            answers.read(words.file) if words.file else answers.asked())
+        wanted = answers.read(words.file) if words.file else answers.asked()
     except answers.Wrong as why:
         program.fail(why, 2)
     # One set-up at a time. The lock ends with this process.
     lock = files.open_lock(LOCK)
     if not files.is_locked(lock):
         program.fail("another set-up is going on")
-    # A copy of FreeRADIUS' folder, secrets and all, that a killed run left.
+    # A copy of nginx' folder, keys and all, that a killed run left.
     shutil.rmtree(steps.TRIAL, ignore_errors=True)
     try:
-        remove(words) if words.remove else do(words, wanted)
+        do(words, wanted)
     except (steps.Failed, site.Missing, OSError) as why:
         program.say(f"{program.reason(why)}\nWhat is done stays. Mend it, and give the same again.")
         return 1

@@ -7,9 +7,9 @@
     radacctl site plans BOOK [CONFIG]
 
 `save` writes an archive, for its owner alone, and reads it back before it has its name:
-configurations, keys and secrets, site.db, what was withdrawn, the journals of debits, the outbox of
-a pair, the settings of the pages, the folders of FreeRADIUS and nginx with the certificates that
-they name, units and defaults of radacctd, and reports that FreeRADIUS has filed.
+configurations, keys and secrets, site.db, users, what was withdrawn, the journals of debits, the
+settings of the pages, the folders of FreeRADIUS and nginx with the certificates that they name,
+units and defaults of radacctd, and reports that FreeRADIUS keeps.
 RADACCTD_ALSO names further files and folders. radacctd-nightly gives it.
 
 `test` reads an archive and compares each file with its digest. `packages` prints the packages that
@@ -35,7 +35,7 @@ import time
 import tomllib
 
 from radacctd_site.core import features
-from radacctl import archive, files, freeradius, plans, program, site
+from radacctl import archive, files, plans, postgres, program, site
 from radacctl.doctor import look
 from radacctl.files import opened_folder as opened, regular
 from radacctl.program import say
@@ -48,20 +48,12 @@ PLACES = [
     site.RADDB,
     "/etc/nginx",
     "/etc/systemd/system/radacctd*",
-    "/etc/systemd/system/freeradius.service.d",
     "/etc/systemd/system/nginx.service.d",
     "/var/lib/radacctd-site",
     site.BOOKS,
-    "/var/lib/private/radacctd-outbox",
-    "/var/lib/radacctd-outbox",
-    "/var/lib/radacctd-pair",
-    "/var/log/freeradius/radacct/radacctd-unsent",
+    "/var/lib/radacctd-front",
     os.path.dirname(site.DUMP),
 ]
-# Of these the folders alone are copied: what waits in a queue is sent within seconds.
-EMPTY = site.RADACCT
-# The tools of a pair are put there by hand.
-BY_HAND = ["/usr/local/sbin/radacctd-outbox", "/usr/local/sbin/radacctd-compare"]
 # One at a time dumps FreeRADIUS' database and writes an archive.
 LOCK = "/run/radacctd-site.lock"
 # FreeRADIUS and nginx name files outside of their folders.
@@ -70,7 +62,7 @@ NAMED = re.compile(r"/etc/(?:ssl|letsencrypt)/[A-Za-z0-9._/-]+")
 NOT_NAMED = "/etc/ssl/certs/ca-certificates.crt"
 PACKAGES = ["freeradius*", "libfreeradius*", "nginx*", "libnginx*"]
 PACKAGES += [*features.listed("PACKAGES")]
-PACKAGES += ["qrencode", "rsync", "ssl-cert"]
+PACKAGES += ["qrencode", "rsync", "sqlite3", "ssl-cert"]
 UNITS = ["radacctd*", "freeradius.service", "nginx.service"]
 # What their packages enable, and a site may not.
 OTHERS = ["freeradius.service", "nginx.service"]
@@ -79,9 +71,7 @@ OTHERS = ["freeradius.service", "nginx.service"]
 def places():
     """Each place that is there, outermost first and none twice."""
     found = []
-    listed = files.text(site.shared("installed")).splitlines()
-    by_hand = [it for it in BY_HAND if it not in listed]
-    for pattern in [*PLACES, *by_hand, *named_files(), *also()]:
+    for pattern in [*PLACES, *named_files(), *also()]:
         for path in sorted(glob.glob(glob.escape(pattern.removesuffix("*")) + "*")
                            if pattern.endswith("*") else [pattern]):
             # Without a link above it.
@@ -97,7 +87,7 @@ def also():
         path = os.path.normpath(path)
         if not path.startswith("/"):
             raise program.Failed(f"RADACCTD_ALSO: {path} is no path from the root")
-        others = [*PLACES, EMPTY, f"{site.SBIN}/radacctd", "/root/", "/home/"]
+        others = [*PLACES, f"{site.SBIN}/radacctd", "/root/", "/home/"]
         if path.count("/") < 2 or any(it.startswith(f"{path}/") for it in others):
             raise program.Failed(f"RADACCTD_ALSO: {path} has more in it than a site's: name what "
                                 "you need")
@@ -148,14 +138,14 @@ def dump_sql():
 
     If that fails, the dump of an earlier night stays and is copied, and a line says so.
     """
-    text = freeradius.text("mods-enabled", "sql")
-    if freeradius.value(text, "dialect") != "postgresql":
+    found = postgres.settings()
+    if not found:
         return
     new = site.DUMP + ".new"
     os.makedirs(os.path.dirname(new), mode=0o700, exist_ok=True)
     try:
         files.remove(new)
-        with freeradius.postgres(text) as (begin, options):
+        with postgres.connection(found) as (begin, options):
             done = look.ran([*begin, "pg_dump", "-w", *options, "-f", new], 3600)
         if done.returncode:
             raise OSError(done.stderr.strip()[-200:])
@@ -183,7 +173,7 @@ def save(words):
     summary = {"format": archive.FORMAT, "taken": int(time.time()), "places": found}
     readers = [it.gr_mem for it in grp.getgrall() if it.gr_name == site.READERS]
     summary |= {"packages": packages(), "units": enabled(), "members": sum(readers, [])}
-    made.end({**summary, "empty": made.add_empty(EMPTY)})
+    made.end(summary)
     tested = archive.test_archive(part)
     if tested["digests"] != made.digests:
         raise program.Failed(f"{part} is not what was written: its disk fails")

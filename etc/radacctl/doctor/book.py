@@ -202,13 +202,10 @@ def mode(path, most, owners, groups_allowed):
 
 
 def groups(kind):
-    wanted = [(kind.has_front, site.RADIUS_USER), (kind.has_site, places.USER)]
-    for is_needed, user in wanted:
-        # There may be no such user.
-        status, said = look.run("id", "-Gn", user) if is_needed else (1, "")
-        if status:
-            continue
-        found = said.split()
+    # There may be no such user.
+    status, said = look.run("id", "-Gn", places.USER) if kind.has_site else (1, "")
+    if not status:
+        user, found = places.USER, said.split()
         if site.USER in found:
             yield Fault("group-wrong", f"{user} is in the group {site.USER}, which reads secrets",
                         f"gpasswd -d {user} {site.USER}, and restart its service")

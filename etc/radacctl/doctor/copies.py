@@ -4,7 +4,7 @@ import os
 import re
 import time
 
-from radacctl import files, freeradius, site
+from radacctl import files, postgres, site
 from radacctl.doctor import look
 from radacctl.doctor.faults import Fault
 
@@ -93,9 +93,8 @@ def lost(path):
 
 def database():
     """FreeRADIUS' own users, if they are in PostgreSQL."""
-    text = freeradius.text("mods-enabled", "sql")
     status = look.status_of(site.DUMP)
-    if freeradius.value(text, "dialect") != "postgresql":
+    if not postgres.settings():
         return
     if status is None or time.time() - status.st_mtime > OLDEST:
         yield Fault("copy-sql", f"{site.DUMP} is missing or old", NOW)

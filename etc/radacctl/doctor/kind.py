@@ -12,14 +12,8 @@ NGINX = "/etc/nginx/conf.d/radacctd.conf"
 # What a site may have: the words for it, the units that are to run and start with the machine, and
 # the traces that it is there. Any of these will do: what was lost is to be missed.
 PARTS = [
-    ("has_front", "behind FreeRADIUS", "freeradius.service radacctd-mirror.service "
-     "radacctd-front.service radacctd-clock.timer",
-     (f"{site.RADDB}/radacctd", f"{site.RADDB}/sites-enabled/radacctd",
-      "/etc/systemd/system/radacctd-mirror.service")),
     ("has_pages", "with pages", "nginx.service radacctd-site.socket", (NGINX,)),
     ("has_site", "", "radacctd-minute.timer", (site.SITE_KEY, "/var/lib/radacctd-site")),
-    ("has_pair", "one of a pair", "radacctd-outbox.service radacctd-state.socket "
-     "radacctd-compare.timer", (site.PAIR, f"{site.RADDB}/radacctd/pair.conf")),
     *features.listed("PARTS"),
 ]
 

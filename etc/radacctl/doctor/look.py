@@ -10,7 +10,7 @@ import tempfile
 import time
 from ssl import cert_time_to_seconds as seconds_of
 
-from radacctl import files, names
+from radacctl import files, names, site
 from radacctl.doctor.faults import Fault
 
 PATH = "/usr/sbin:/usr/bin:/sbin:/bin"
@@ -137,6 +137,15 @@ def certificate(path, cure, *user):
         yield Fault("certificate-ended", f"{path} holds from {begin} to {end}", cure)
     elif seconds_of(end) < time.time() + SOON:
         yield Fault("certificate-ends", f"{path} is over at {end}", cure)
+
+
+def oldest_kept(folder):
+    """When the oldest report in a folder of FreeRADIUS' was kept, or None. Its user, who may change
+    names there, looks. Of one that was sent the line is another one.
+    """
+    _, said = run(*files.as_user(site.RADIUS_USER), "find", folder, "-type", "f", "-exec", "grep",
+                  "-hm1", "Timestamp = ", "{}", "+")
+    return min(map(int, re.findall(r"(?m)^\tTimestamp = (\d+)$", said)), default=None)
 
 
 def values_in(path):

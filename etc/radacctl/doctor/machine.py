@@ -15,14 +15,6 @@ YEAR_2026 = 1_767_225_600
 RUNS = ("active", "reloading")
 # What a unit that cannot be started needs. `systemctl disable` removes one that is a link.
 UNSTARTED = {"masked": "systemctl unmask --now {}", "not-found": "radacctl setup, which brings it"}
-# The programs whose process may be an older one: of each, the unit.
-SCRIPTS = {
-    f"{site.RADDB}/radacctd/balances-mirror": "radacctd-mirror.service",
-    f"{site.RADDB}/radacctd/front-counts": "radacctd-front.service",
-    "/usr/local/sbin/radacctd-outbox": "radacctd-outbox.service",
-    # An upgrade brings all of its files at once, and does not restart it.
-    f"{site.RADDB}/radacctd/queue.pl": "freeradius.service",
-}
 
 
 def look_at(kind):
@@ -70,7 +62,6 @@ def old_programs():
             process = path.split("/")[2]
             yield Fault("old-program", f"process {process} runs a radacctd that was replaced",
                         f"systemctl restart {unit_of(process)}")
-    yield from old_scripts()
 
 
 def unit_of(process):
@@ -81,15 +72,6 @@ def unit_of(process):
     except OSError:
         found = []
     return found[-1] if found else f"its unit (process {process})"
-
-
-def old_scripts():
-    for path, unit in SCRIPTS.items():
-        status, begun = look.status_of(path), begin_of(unit)
-        # A moment that is to come is of a clock that was ahead: it says nothing.
-        if status and begun and begun + 2 < status.st_ctime <= time.time():
-            yield Fault("old-program", f"{unit} runs an older {os.path.basename(path)}",
-                        f"systemctl restart {unit}")
 
 
 def begin_of(unit):
@@ -135,7 +117,7 @@ def to_come(what, moment):
 def disks(kind):
     places = [site.STATE, "/etc", copies.place()[0], "/var/log"]
     if kind.has_front:
-        places += [site.RADACCT, "/run"]
+        places += ["/var/lib/radacctd-front", "/run"]
     seen = set()
     for path in places:
         status = look.status_of(path)

@@ -1,6 +1,7 @@
 """The steps to radacctd itself: its configuration, its book, its service, its nights."""
 
 import grp
+import hashlib
 import json
 import os
 import re
@@ -9,7 +10,7 @@ import socket
 import time
 import tomllib
 
-from radacctl import configuration, desk, files, freeradius, names, plans, site
+from radacctl import configuration, desk, files, names, plans, site
 from radacctl.doctor import copies, look, machine
 from radacctl.program import told
 from radacctl.setup import steps
@@ -41,36 +42,55 @@ class Config:
         self.text = files.text(site.CONFIG)
         with told(steps.Failed, f"{site.CONFIG} is wrong: ", tomllib.TOMLDecodeError):
             self.found = tomllib.loads(self.text.replace("\r\n", "\n"))
-        self.more, self.pair_secret = [], secrets.token_hex(16)
+        self.more, self.of_features = [], []
         try:
             self.clients = {it.get("name"): it for it in self.found.get("client", [])}
+            self.plans = self.wanted_plans()
             self.add_clients()
             self.add_plans()
             self.keys = self.add_keys()
+            self.stamp = self.found.get("stamp", {}).get("secret")
+            if answers.has_front and not self.stamp:
+                self.stamp = secret(answers, "stamp")
+                self.more.append(f'[stamp]\nsecret = "{self.stamp}"\n')
         except (AttributeError, KeyError, TypeError):
             why = f"{site.CONFIG} is wrong: radacctd check --explain says where"
             raise steps.Failed(why) from None
 
     def add_clients(self):
-        wanted = {"books": "127.0.0.9"}
+        wanted = [{"name": "books", "address": "127.0.0.9"}]
         if self.answers.has_front:
-            wanted["freeradius"] = "127.0.0.1"
+            wanted.append({"name": "front", "address": "127.0.0.1", "stamped": True, "proxy": True,
+                           "plan": self.free["class"]})
         else:
-            wanted |= {it["name"]: it["address"] for it in self.answers.access_servers}
-        for name, address in wanted.items():
-            known = self.clients.get(name)
+            wanted += [{"name": it["name"], "address": it["address"]}
+                       for it in self.answers.access_servers]
+        for it in wanted:
+            name, known = it["name"], self.clients.get(it["name"])
             if known is None:
-                known = {"name": name, "address": address, "secret": secret(self.answers, name)}
-                self.clients[name] = known
-                self.more.append(block("client", known))
-            elif known.get("address") != address:
-                raise steps.Failed(f"{site.CONFIG} has the client {name} with the address "
-                                   f"{known.get('address')}, not {address}")
+                self.clients[name] = {**it, "secret": secret(self.answers, name)}
+                self.more.append(block("client", self.clients[name]))
+                continue
+            for member in it:
+                # Which free plan a site chose stays.
+                if known.get(member) != it[member] and member != "plan":
+                    raise steps.Failed(f"{site.CONFIG} has the client {name} with the {member} "
+                                       f"{known.get(member)}, not {it[member]}")
+
+    def wanted_plans(self):
+        """The plans of the answers, that of debits, and one that costs nothing: FreeRADIUS' reports
+        of somebody whom nobody let in have it.
+        """
+        found = [*self.answers.plans, {"class": "debit", "block": 1, "unit": 1, "count": "both"}]
+        self.free = next((it for it in self.answers.plans if it["unit"] == 0), None)
+        if self.answers.has_front and self.free is None:
+            self.free = {"class": "free", "block": 1_000_000, "unit": 0, "count": "both"}
+            found.append(self.free)
+        return found
 
     def add_plans(self):
         known = {it.get("class"): it for it in self.found.get("plan", [])}
-        debit = {"class": "debit", "block": 1, "unit": 1, "count": "both"}
-        for plan in [*self.answers.plans, debit]:
+        for plan in self.plans:
             old = known.get(plan["class"])
             if old is None:
                 self.more.append(block("plan", plan))
@@ -79,7 +99,9 @@ class Config:
                                    "a plan stays what it is, so add one of a new class")
 
     def add_keys(self):
-        """The cashiers' keys of the front desk and the tools, and of the pages' service."""
+        """The cashiers' keys of the front desk and the tools, and of the pages' service; and that
+        of the front, which asks what a login may use.
+        """
         known = [it["token"] for it in self.found.get("key", []) if it.get("cashier") is True]
         found = {}
         for name, path in (("cashier", desk.CASHIER_KEY), ("site", site.SITE_KEY)):
@@ -92,6 +114,21 @@ class Config:
                 key = self.answers.secrets.get(name) or f"{name}-{secrets.token_hex(16)}"
                 self.more.append(block("key", {"token": key, "cashier": True}))
             found[name] = key
+        tokens = [it["token"] for it in self.found.get("key", []) if it.get("logins") is True]
+        if self.answers.has_front:
+            found["logins"] = next(iter(tokens), None) or secret(self.answers, "logins")
+            if not tokens:
+                self.more.append(block("key", {"token": found["logins"], "logins": True}))
+        return found
+
+    def secrets(self):
+        """What the other machine of a pair is to have, too. A feature adds to `of_features` what
+        returns some.
+        """
+        found = {it: self.clients[it]["secret"] for it in ("front", "books")}
+        found |= {**self.keys, "stamp": self.stamp}
+        for more in self.of_features:
+            found |= more()
         return found
 
     def wanted(self, old):
@@ -152,17 +189,15 @@ def with_bind(text, address):
 def defaults(text, answers):
     text, port = text or "", "RADACCTD_RADIUS_PORT"
     if answers.has_front:
-        # That to which FreeRADIUS sends: a site may have changed it. FreeRADIUS itself has 1813.
-        sent = freeradius.settings()["port"]
-        is_free = sent.isdecimal() and sent != "1813"
-        text = with_value(text, port, sent if is_free else FRONT_PORT)
+        # FreeRADIUS itself has 1813. What a site chose beside it stays.
+        if look.values_of(text).get(port, "1813") == "1813":
+            text = with_value(text, port, FRONT_PORT)
     else:
         text = with_bind(text, answers.server)
         if look.values_of(text).get(port) == FRONT_PORT:
             # FreeRADIUS, which had the usual port, was taken out.
             text = with_value(text, port, "1813")
-    # The other machine of a pair sells at this desk, too.
-    return with_value(text, "RADACCTD_DESK_BIND", answers.pair["own"]) if answers.pair else text
+    return text
 
 
 def refuse_if_elsewhere(answers):
@@ -212,10 +247,10 @@ def refuse_if_lost(is_new_wanted):
             "balance of anybody; --new-book makes one")
 
 
-def plans_are_in(answers):
+def plans_are_in(wanted):
     """Whether the book keeps each plan."""
     found = plans.in_force()
-    wanted = {names.shown(it["class"].encode()) for it in answers.plans} | {"debit"}
+    wanted = {names.shown(it["class"].encode()) for it in wanted}
     return found is not None and wanted <= set(found)
 
 
@@ -254,11 +289,20 @@ def user(name, group=None):
     return Command(f"make the user {name}", is_there, "systemd-sysusers", own("sysusers.d", name))
 
 
+def member(name):
+    """Lets a user read the balances, and nothing else of radacctd's."""
+    is_in = lambda: site.READERS in steps.given(["id", "-Gn", name]).split()
+    return Command(f"let {name} read the balances", is_in, "gpasswd", "-a", name, site.READERS)
+
+
+def is_debians(path, text, package):
+    """Whether a file is as Debian's package made it: then nothing in it is the site's."""
+    found = hashlib.md5(text.encode("utf-8", "surrogateescape")).hexdigest()
+    return f" {path} {found}" in look.run("dpkg-query", "-W", "-f", "${Conffiles}\n", package)[1]
+
+
 def of(answers, config):
     """The steps, in their order."""
-    if not answers.has_front and os.path.lexists(freeradius.path("radacctd", "settings.conf")):
-        raise steps.Failed("FreeRADIUS is in front, and the answers have freeradius = false: first "
-                           "radacctl setup --remove")
     if not site.INSTALLED.startswith("/usr/libexec/"):
         # No package made the service's user and folders.
         yield user(site.USER, site.READERS)
@@ -270,16 +314,14 @@ def of(answers, config):
         refuse_if_elsewhere(answers)
         yield File(site.DEFAULTS, lambda old: defaults(old, answers), 0o644)
     yield File(site.BOOKS_SECRET, config.clients["books"]["secret"] + "\n", 0o600)
-    # The outbox of a pair takes both; the first is that of the tools.
-    keys = [config.keys[it] for it in (config.keys if answers.pair else ("cashier",))]
-    yield File(desk.CASHIER_KEY, "".join(f"{it}\n" for it in keys), 0o600)
+    yield File(desk.CASHIER_KEY, config.keys["cashier"] + "\n", 0o600)
     yield Folder(site.STATE, 0o700, site.USER, site.USER)
     book = ("--config", site.CONFIG, "--db", site.BOOK)
     yield Command(f"make the book {site.BOOK}", has_book, site.program(), "init", *book)
     # Before a restart, which fails as long as a plan waits. A server that never ran says nothing.
     if plans.in_force() is not None or has_book():
         yield Step("put the new plans into the book: radacctd stops for some seconds",
-                   lambda: plans_are_in(answers), lambda: put_in_force(book))
+                   lambda: plans_are_in(config.plans), lambda: put_in_force(book))
     yield Fresh("restart radacctd", "radacctd.service", [site.DEFAULTS])
     yield from map(unit, ("radacctd.service", "radacctd-nightly.timer", "radacctd-key.timer"))
 

@@ -15,9 +15,9 @@ from radacctd_site.core.money import MOST_DECIMALS
 VENDORS = ("mikrotik", "unifi", "pfsense", "openwrt", "aruba", "cisco", "other")
 OTHERS_SECRET = re.compile(r"""(?=[^']*\Z|[^"$]*\Z)[^\\\x00-\x1f]{1,128}""")
 BROADCAST = ipaddress.ip_address("255.255.255.255")
-SECRETS = ("freeradius", "books", "cashier", "site", "pair")
-# Names and addresses that setup or Debian's FreeRADIUS has itself.
-TAKEN_NAMES = ("freeradius", "books", "radacctd-setup", "localhost", "localhost_ipv6")
+SECRETS = ("front", "books", "cashier", "site", "logins", "stamp", "codes", "pair")
+# Names and addresses that setup has itself.
+TAKEN_NAMES = ("front", "other", "books", "radacctd-setup")
 TAKEN_ADDRESSES = ("127.0.0.1", "127.0.0.8", "127.0.0.9", "::1")
 # In a file of answers: the head of a table, and a line of a member.
 HEAD, MEMBER = re.compile(r"\s*\[\[?\s*([\w-]+)\s*\]"), re.compile(r"\s*[\"']?([\w-]+)[\"']?\s*=")
@@ -126,7 +126,6 @@ PRINTABLE = rule("a text in quotation marks, and printable",
                  lambda it: isinstance(it, str) and it.isprintable())
 PATH = "/[A-Za-z0-9._/-]+"
 HOST = r"(?=.{1,253}$)[a-z0-9]([a-z0-9-]*[a-z0-9])?(\.[a-z0-9]([a-z0-9-]*[a-z0-9])?)+"
-NAMES = texts("of letters, digits and . _ : -", "[A-Za-z0-9._:-]{1,253}")
 CASHIERS = texts("1 to 32 letters, digits or . _ - @, and - is not first", r"[\w.@][\w.@-]{0,31}")
 OF_SQL = text("1 to 253 letters, digits or . _ : -", "[A-Za-z0-9._:][A-Za-z0-9._:-]{0,252}")
 # The members of a file and of its tables: what each is if it is left out, and its rule. None: it
@@ -138,9 +137,7 @@ TOP = {
     "certificate_key": ("", text("a path from the root", f"({PATH})?")),
     "currency": ("", PRINTABLE), "decimals": (2, number(0, MOST_DECIMALS)),
     "cashiers": ([], CASHIERS),
-    "class": ("", PRINTABLE), "operators": ([], CASHIERS),
-    "left_out": ([], NAMES),
-    "realms": ([], NAMES), "virtual_servers": ([], NAMES),
+    "operators": ([], CASHIERS),
     "plan": (None, LIST), "access_server": ([], LIST), "pair": ({}, TABLE), "secrets": ({}, TABLE),
     "sql": ({}, TABLE),
 }  # fmt: skip
@@ -155,14 +152,14 @@ ACCESS_SERVER = {
     "name": (None, text("1 to 32 of A-Z a-z 0-9 . _ -, and no . or - is first. These are taken: "
                         + ", ".join(TAKEN_NAMES),
                         rf"(?!({'|'.join(TAKEN_NAMES)})$)[A-Za-z0-9_][A-Za-z0-9._-]{{0,31}}")),
-    "address": (None, address), "vendor": ("other", one_of(*VENDORS)), "coa": (False, FLAG),
+    "address": (None, address), "vendor": ("other", one_of(*VENDORS)),
 }  # fmt: skip
 PAIR = {"own": (None, one_address), "other": (None, one_address), "second": (False, FLAG)}
 SQL = {"server": ("localhost", OF_SQL), "port": (5432, number(1, 65535)),
-       "database": ("radius", OF_SQL), "login": ("radius", OF_SQL), "accounting": (False, FLAG),
+       "database": ("radius", OF_SQL), "login": ("radius", OF_SQL),
        "password_file": (None, text("a path from the root", PATH))}
 # What a member needs next to it.
-NEEDS = [(it, "freeradius") for it in ("pair", "sql", "left_out", "realms", "virtual_servers")]
+NEEDS = [(it, "freeradius") for it in ("pair", "sql")]
 NEEDS += [("cashiers", "host"), ("host", "name"), ("host", "currency"),
           ("certificate", "certificate_key"), ("certificate_key", "certificate")]
 
@@ -203,9 +200,7 @@ class Answers:
         self.access_servers = tables(it["access_server"], ACCESS_SERVER, "access_server")
         self.has_front = it["freeradius"]
         classes = [each["class"] for each in self.plans]
-        self.usual_class = it["class"] or next(iter(classes), "")
         need("default" in classes, "each site has a plan `default`: write a [[plan]] of it")
-        need(self.usual_class in classes, f"class: there is no plan {self.usual_class}", "class")
         self.test_once(self.plans, "plan", "plans", "class")
         for key in ("name", "address"):
             self.test_once(self.access_servers, "access_server", "access servers", key)
@@ -231,9 +226,6 @@ class Answers:
             need(self.has_front or is_one and ":" not in it["address"],
                  f"access server {it['name']}: without FreeRADIUS it is one address of IPv4",
                  "address", "access_server", number)
-            can_slow = it["vendor"] == "mikrotik" and is_one
-            need(can_slow or not it["coa"], f"access server {it['name']}: coa is for a mikrotik of "
-                 "one address", "coa", "access_server", number)
         need(self.has_front or ":" not in self.server,
              "without FreeRADIUS `server` is an address of IPv4", "server")
         need(self.has_front or self.server or not self.access_servers,

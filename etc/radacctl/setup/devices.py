@@ -2,7 +2,6 @@
 
 import re
 
-from radacctl.setup import front
 from radacctl.setup.alone import NOTES, File, Folder
 
 FOLDER = f"{NOTES}/access-servers"
@@ -12,6 +11,8 @@ MIKROTIK = """\
 # RouterOS 7: paste this into a terminal of {name}. Hotspot; for PPP write `ppp` in its place.
 /radius add service=hotspot address={server} secret="{routeros}" timeout=3s comment=radacctd
 /radius incoming set accept=yes port=3799
+# Reports have this name: who overdraws is disconnected by it.
+/system identity set name={name}
 /ip hotspot profile set [find] use-radius=yes radius-accounting=yes \\
     radius-interim-update={interval}m login-by=http-pap,https
 /system ntp client set enabled=yes servers=pool.ntp.org
@@ -25,6 +26,7 @@ UniFi Network, for {name}:
  4. Interim Update Interval: on, {seconds} seconds. Apply.
  5. WiFi, your network, Security: WPA2/3 Enterprise with this profile. Or Hotspot Portal,
     Authentication: RADIUS, with this profile; Disconnect Requests (CoA): on, port 3799.
+    NAS ID: {name}.
  6. Each access point is a client of its own address: let {address} cover all of them.
  7. Hotspot, Landing Page, Pre-Authorization Access: {host}.
 
@@ -34,7 +36,8 @@ PFSENSE = """\
 pfSense, for {name}:
  1. System, User Manager, Authentication Servers, Add. Type RADIUS, Protocol PAP, Hostname
     {server}, Services Authentication and Accounting, ports 1812 and 1813, the secret below. Save.
- 2. Services, Captive Portal, your zone. Authentication: this server, also for accounting.
+ 2. Services, Captive Portal, your zone. Authentication: this server, also for accounting. NAS
+    Identifier: {name}.
  3. Accounting: send RADIUS accounting packets; Accounting updates: Interim.
  4. Reauthentication: off. Its interval of updates is a minute, and cannot be set.
  5. System, General Setup: a time server.
@@ -45,6 +48,7 @@ pfSense, for {name}:
 OPENWRT = """\
 # OpenWrt with wpad of WPA Enterprise: paste this into a shell of {name}, for its first network.
 uci set wireless.@wifi-iface[0].encryption=wpa2
+uci set wireless.@wifi-iface[0].nasid={name}
 uci set wireless.@wifi-iface[0].auth_server={server}
 uci set wireless.@wifi-iface[0].auth_secret={quoted}
 uci set wireless.@wifi-iface[0].acct_server={server}
@@ -61,6 +65,7 @@ ARUBA = """\
 aaa authentication-server radius "radacctd"
     host {server}
     key {secret}
+    nas-identifier {name}
 aaa server-group "radacctd"
     auth-server radacctd
 aaa rfc-3576-server {server}
@@ -81,6 +86,7 @@ radius server radacctd
  key {secret}
 aaa group server radius radacctd
  server name radacctd
+radius-server attribute 32 include-in-accounting-req format {name}
 aaa accounting gigawords
 aaa accounting delay-start
 aaa accounting update newinfo periodic {interval}
@@ -94,6 +100,7 @@ aaa server radius dynamic-author
 OTHER = """\
 {name}, as its own manual names these:
     RADIUS server {server}, authentication port 1812, accounting port 1813
+    NAS-Identifier {name}
     interim updates each {interval} minutes, gigawords on, Acct-Delay-Time on
     Disconnect-Requests (RFC 5176) from {server} at port 3799
     a clock set by NTP
@@ -134,12 +141,9 @@ def text_of(device, answers, secret):
     return text.format(**values)
 
 
-def of(answers, config):
-    """A file for each access server. The steps before it made the secrets."""
+def of(answers, secret_of):
+    """A file for each access server, by what says its secret. The steps before it made these."""
     yield Folder(FOLDER, 0o700)
-    for device in answers.access_servers:
-        def text(_, device=device):
-            if answers.has_front:
-                return text_of(device, answers, front.secret_of(device["name"], device["address"]))
-            return text_of(device, answers, config.clients[device["name"]]["secret"])
-        yield File(f"{FOLDER}/{device['name']}.txt", text, 0o600)
+    for it in answers.access_servers:
+        yield File(f"{FOLDER}/{it['name']}.txt",
+                   lambda _, it=it: text_of(it, answers, secret_of(it["name"])), 0o600)

@@ -18,12 +18,12 @@ import shutil
 import stat
 import time
 
-from radacctl import files, freeradius, program, site
+from radacctl import files, program, site
 from radacctl.doctor import look, machine
 from radacctl.program import Failed
 
 # Lines that have a secret are not printed: one that is named so, or a line that is nothing else.
-SECRET = re.compile(r"secret|token|password|Desk-Key|^[+-]\s*key\s*=|^[+-][A-Za-z0-9-]{16,}$", re.I)
+SECRET = re.compile(r"secret|token|password|Desk-Key|key\s*=|^[+-][A-Za-z0-9-]{16,}$", re.I)
 MOST_LINES = 12
 # What follows the name of a file in that of one which is to take its place: no program reads it.
 NEW = "~setup-new"
@@ -312,17 +312,6 @@ class Fresh(Step):
 def refuse_if_away():
     """No server is stopped whose book is not where its name leads: that could lose it."""
     given([site.part("book-is-there"), "radacctd.service", site.BOOK])
-
-
-def begun(text, section, word):
-    """A virtual server whose section begins with a line of a word, unless it has the word."""
-    if word in freeradius.section(freeradius.without_comments(text), section).split():
-        return text
-    found = re.search(rf"(?m)^[ \t]*{section}[ \t]*\{{({freeradius.REST}\n)?", text)
-    if not found:
-        raise Failed(f"a virtual server has no section {section}: docs/FREERADIUS.md, step 6")
-    line = f"\t{word}\n" if found[1] else f"\n\t{word}\n"
-    return text[: found.end()] + line + text[found.end() :]
 
 
 def wait_until(holds, seconds, why):

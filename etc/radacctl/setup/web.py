@@ -9,9 +9,8 @@ import tempfile
 from radacctd_site.core import features, places
 from radacctl import files, money, site, stock
 from radacctl.doctor import look, web as of_web
-from radacctl.setup import pair, steps
-from radacctl.setup.alone import NOTES, Command, File, Folder, unit, user
-from radacctl.setup.front import is_debians
+from radacctl.setup import steps
+from radacctl.setup.alone import NOTES, Command, File, Folder, is_debians, unit, user
 from radacctl.setup.steps import Fresh, Step, Trial
 
 PACKAGES = ["nginx", "openssl", *features.listed("PACKAGES")]
@@ -23,7 +22,7 @@ TEST = ("nginx", "-t")
 def store(config):
     """What sells, also without pages: its user, who reads balances, its folder, its key, its minute."""
     yield user(places.USER)
-    yield Folder(places.USUAL, 0o700, places.USER, places.USER)
+    yield Folder(places.USUAL, 0o711, places.USER, places.USER)
     yield File(site.SITE_KEY, config.keys["site"] + "\n", 0o600)
     yield from units(".timer")
 
@@ -116,7 +115,7 @@ def settings(old, answers):
         raise steps.Failed(f"{money.SETTINGS} is no object of settings: mend it, or move it away")
     known = found.get("decimals", answers.decimals)
     # Whether the book has an account besides that of the proof.
-    if known != answers.decimals and set(look.balances()) - {pair.TEST}:
+    if known != answers.decimals and set(look.balances()) - {b"radacctd-setup"}:
         raise steps.Failed(f"{money.SETTINGS} has {known} decimals, and the answers have "
                            f"{answers.decimals}: each sum of the book would be another one")
     found |= {"name": answers.name, "url": f"https://{answers.host}",

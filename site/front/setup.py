@@ -1,0 +1,183 @@
+"""The front's part of the set-up: FreeRADIUS' folder, its certificate, the cut-off, the units.
+
+Files of ours are whole: a set-up writes them anew. settings.conf, clients.conf, users.conf and
+cut.toml are the site's: it adds what they lack, and secrets that are radacctd's.
+"""
+
+import os
+import re
+import tempfile
+
+from radacctl import files as on_disk, site
+from radacctl.doctor import kind, look
+from radacctl.setup import alone, devices, steps
+from radacctl.setup.steps import Command, File, Folder, Fresh, Step
+from radacctd_site.front import clients, proof, users
+from radacctd_site.front.clients import RADDB, SECRETS
+
+HERE = os.path.dirname(os.path.realpath(__file__))
+KEPT, CERTS = "/var/lib/radacctd-front", f"{RADDB}/certs"
+# What the site's authority signs with. Whoever has a certificate of it may log in by it.
+AUTHORITY = f"{alone.NOTES}/authority"
+CERTIFICATES = ("ca.pem", "server.pem", "server.key")
+OF_DEBIAN = ["freeradius", "freeradius-rest", "freeradius-utils", "openssl", "sqlite3"]
+OF_POSTGRESQL = ["freeradius-postgresql", "postgresql-client"]
+# What a site edits. All other files of raddb are ours.
+EDITED = ("settings.conf", "clients.conf", "users.conf")
+UNITS = ("radacctd-front.service", "radacctd-cut.service")
+# What printed codes are digested with, also for who makes them.
+CODES = "/etc/radacctd-codes.key"
+IS_ON = f"/etc/systemd/system/multi-user.target.wants/{UNITS[0]}"
+# How much of a burst of logins the kernel keeps, in octets.
+BURST, KERNEL = 4_194_304, "/proc/sys/net/core/rmem_max"
+
+
+def packages(answers):
+    if not answers.has_front:
+        return []
+    return OF_DEBIAN + (OF_POSTGRESQL if answers.sql else [])
+
+
+def files(answers, config):
+    """What is on the disk."""
+    if not answers.has_front:
+        if os.path.lexists(IS_ON):
+            raise steps.Failed("FreeRADIUS is in front, and the answers have freeradius = false: "
+                               f"first systemctl disable --now {' '.join(UNITS)}")
+        return
+    refuse_if_in_use()
+    config.of_features.append(shared)
+    yield Folder(RADDB, 0o750, of_group=site.RADIUS_USER)
+    for name in whole():
+        yield of_group(name, on_disk.text(f"{HERE}/raddb/{name}"))
+    yield File(CODES, lambda old: old or code_key(answers), 0o600)
+    yield of_group("settings.conf", lambda old: settings(old, config))
+    yield of_group("clients.conf", lambda old: clients.written(old, answers))
+    for path in (KEPT, *(f"{KEPT}/{it}" for it in ("waits", "aside", "again", "lost"))):
+        yield Folder(path, 0o700, site.RADIUS_USER, site.RADIUS_USER)
+    yield from users.of(answers, of_group)
+    yield Folder(CERTS, 0o750, of_group=site.RADIUS_USER)
+    yield Folder(AUTHORITY, 0o700)
+    yield Step("make the site's own authority, and a certificate of it for FreeRADIUS",
+               has_certificates, lambda: make_certificates(answers))
+    yield from cut_off(answers, config)
+    yield from devices.of(answers, clients.secret_of)
+    yield File("/etc/sysctl.d/radacctd-front.conf", f"net.core.rmem_max = {BURST}\n", 0o644)
+
+
+def units(answers):
+    """What runs, once all files are there."""
+    if not answers.has_front:
+        return
+    yield Command("let the kernel keep a burst of logins", keeps_burst, "systemctl", "restart",
+                  "systemd-sysctl.service")
+    yield Command("stop Debian's own FreeRADIUS", lambda: not is_debians_on(), "systemctl",
+                  "disable", "--now", "freeradius.service")
+    yield Fresh("test FreeRADIUS' configuration, and restart it", UNITS[0],
+                [f"{RADDB}/*", f"{CERTS}/*"], test())
+    yield from map(alone.unit, UNITS)
+
+
+def tries(answers):
+    """What shows at the end that it works."""
+    if answers.has_front:
+        yield Step(f"try a sale, a login and reports of the account {clients.TEST_NAME}, which use "
+                   "the sale up", lambda: False, proof.Proof(answers).do)
+
+
+def whole():
+    return sorted(set(os.listdir(f"{HERE}/raddb")) - set(EDITED))
+
+
+def of_group(name, change):
+    return File(f"{RADDB}/{name}", change, 0o640, of_group=site.RADIUS_USER)
+
+
+def test():
+    """What lets FreeRADIUS test its files, as its own user."""
+    return [*on_disk.as_user(site.RADIUS_USER), "freeradius", "-C", "-l", "stdout", "-d", RADDB]
+
+
+def is_debians_on():
+    found = look.properties("freeradius.service", "ActiveState", "UnitFileState")
+    return found.get("ActiveState") == "active" or found.get("UnitFileState") == "enabled"
+
+
+def refuse_if_in_use():
+    """A FreeRADIUS that serves by files of the site's own is not stopped."""
+    if os.path.exists("/usr/sbin/freeradius") and is_debians_on():
+        changed = re.findall(r"(?m)^..5\S* c (\S+)$", look.run("dpkg", "-V", "freeradius-config")[1])
+        if changed:
+            raise steps.Failed(f"FreeRADIUS serves here by files of your own, as {changed[0]}: add "
+                               "radacctd to it (site/front/README.md, \"Your own FreeRADIUS\"), or "
+                               "end it: systemctl disable --now freeradius")
+
+
+def with_value(text, name, new):
+    """settings.conf in which a name has this value."""
+    return re.sub(rf"(?m)^([^#\n]*?(?<!\w){name} = )[^\s,]+", rf"\g<1>{new}", text, count=1)
+
+
+def shared():
+    """The secrets that the other machine of a pair is to have, too."""
+    found = {f"client-{name}": clients.value(text, "secret") for name, text in clients.known()}
+    return {**found, "codes": on_disk.text(CODES).strip()}
+
+
+def code_key(answers):
+    """The key that FreeRADIUS has, or a new one."""
+    had = clients.value(on_disk.text(f"{RADDB}/settings.conf"), "code_key")
+    is_new = not had or had.startswith("change-me")
+    return (alone.secret(answers, "codes") if is_new else had) + "\n"
+
+
+def settings(old, config):
+    """settings.conf with radacctd's address, key and secret; what a site has changed stays."""
+    text, book = old or on_disk.text(f"{HERE}/raddb/settings.conf"), kind.Book()
+    known = {"desk": "{}:{}".format(*book.desk()), "key": config.keys["logins"],
+             "book_port": book.port(), "book_secret": config.clients["front"]["secret"],
+             "code_key": on_disk.text(CODES).strip()}
+    for name, it in known.items():
+        text = with_value(text, name, it)
+    return text
+
+
+def has_certificates():
+    return all(os.path.exists(f"{CERTS}/{it}") for it in CERTIFICATES)
+
+
+def make_certificates(answers):
+    """A new authority, unless there is one, and a certificate of it."""
+    name = answers.host or answers.name or "radacctd"
+    begin = ("openssl", "req", "-x509", "-newkey", "rsa:2048", "-nodes", "-days", "3650")
+    with tempfile.TemporaryDirectory(dir="/run") as folder:
+        made = lambda it: os.path.join(folder, it)
+        if not os.path.exists(f"{AUTHORITY}/ca.key"):
+            steps.given([*begin, "-subj", f"/CN=Authority of {name[:40]}", "-keyout",
+                         made("ca.key"), "-out", made("ca.pem")])
+            for it in ("ca.pem", "ca.key"):
+                File(f"{AUTHORITY}/{it}", on_disk.text(made(it)), 0o600).do()
+        steps.given([*begin, "-subj", f"/CN={name[:64]}", "-CA", f"{AUTHORITY}/ca.pem", "-CAkey",
+                     f"{AUTHORITY}/ca.key", "-addext", "basicConstraints=CA:FALSE", "-addext",
+                     "extendedKeyUsage=serverAuth", "-keyout", made("server.key"), "-out",
+                     made("server.pem")])
+        texts = [on_disk.text(it) for it in (f"{AUTHORITY}/ca.pem", made("server.pem"),
+                                             made("server.key"))]
+        for it, text in zip(CERTIFICATES, texts):
+            of_group(f"certs/{it}", text).do()
+
+
+def cut_off(answers, config):
+    """Who ends sessions, with each secret in a file of its own."""
+    yield of_group("desk.key", config.keys["logins"] + "\n")
+    yield Folder(SECRETS, 0o750, of_group=site.RADIUS_USER)
+    asked = clients.asked_to_cut(answers)
+    for name in (it["name"] for it in asked):
+        yield of_group(f"secrets/{name}", lambda _, name=name: clients.secret_of(name) + "\n")
+    sample = on_disk.text(f"{HERE}/cut.toml")
+    yield of_group("cut.toml", lambda old: clients.cut_toml(old or sample, asked))
+
+
+def keeps_burst():
+    """Whether the kernel does, or whether it is another machine's, as in a container."""
+    return not os.access(KERNEL, os.W_OK) or int(on_disk.text(KERNEL)) >= BURST

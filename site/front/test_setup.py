@@ -1,0 +1,222 @@
+"""What the set-up writes for FreeRADIUS, what stays as it was, and what the doctor sees."""
+
+import os
+import re
+import tempfile
+import time
+import tomllib
+import unittest
+from unittest import mock
+
+from radacctl import files
+from radacctl.doctor import look
+from radacctl.setup import alone, answers, steps
+from radacctd_site.front import clients, looks, setup, users
+
+PLAN = {"class": "default", "block": 1000, "unit": 5}
+LOBBY = {"name": "lobby", "address": "10.0.0.1", "vendor": "mikrotik"}
+
+
+def wanted(*servers, **more):
+    return answers.Answers({"plan": [PLAN], "access_server": list(servers), **more})
+
+
+class Clients(unittest.TestCase):
+    def test_each_has_its_own_secret_which_stays(self):
+        text = clients.written(None, wanted(LOBBY))
+        self.assertEqual(clients.written(text, wanted(LOBBY)), text)
+        found = dict(clients.BLOCK.findall(text))
+        self.assertEqual(set(found), {"lobby", clients.TEST_NAME})
+        self.assertEqual(len({clients.value(it, "secret") for it in found.values()}), 2)
+        self.assertRegex(clients.value(found["lobby"], "secret"), "^[0-9a-f]{32}$")
+        self.assertEqual([clients.value(found["lobby"], it) for it in ("quota", "login", "pays")],
+                         ["mikrotik", "yes", "yes"])
+
+    def test_what_a_site_wrote_stays(self):
+        text = clients.written(None, wanted(LOBBY))
+        mine = text.replace("pays = yes", "pays = no") + "\n# mine\n"
+        more = clients.written(mine, wanted(LOBBY, {"name": "roof", "address": "10.0.1.0/24"}))
+        self.assertTrue(more.startswith(mine))
+        self.assertIn("\tipaddr = 10.0.1.0/24\n", more)
+
+    def test_another_address_of_a_client_is_told(self):
+        text = clients.written(None, wanted(LOBBY))
+        self.assertRaisesRegex(steps.Failed, "10.0.0.1, not 10.0.0.2", clients.written, text,
+                               wanted({**LOBBY, "address": "10.0.0.2"}))
+
+    def test_an_ipv6_address_needs_a_listener(self):
+        one = wanted({**LOBBY, "address": "fd00::1"})
+        self.assertRaisesRegex(steps.Failed, "site.conf", clients.written, None, one)
+
+    def test_a_secret_that_cannot_be_found_is_not_written_as_none(self):
+        with mock.patch.object(files, "text", lambda _: ""):
+            self.assertRaises(steps.Failed, clients.secret_of, "lobby")
+
+    def test_values(self):
+        for text, found in (('x = "a b"', "a b"), ("y = 1, x = a, z", "a"), ('x = ""', ""),
+                            ("code_x = b", ""), ("# x = b", ""), ("x = 'a \"b'", 'a "b')):
+            self.assertEqual(clients.value(text, "x"), found, text)
+
+
+class CutOff(unittest.TestCase):
+    def test_who_can_be_asked(self):
+        """By its name or its address; no network, and nobody without a port."""
+        asked = clients.asked_to_cut(wanted(
+            LOBBY, {"name": "attic", "address": "10.0.2.0/24", "vendor": "unifi"},
+            {"name": "old", "address": "10.0.0.9", "vendor": "other"},
+            {"name": "six", "address": "fd00::1", "vendor": "cisco"}))
+        text = clients.cut_toml("# ours\n", asked)
+        self.assertEqual(clients.cut_toml(text, asked), text)
+        found = {it["client"]: it["address"] for it in tomllib.loads(text)["access_server"]}
+        self.assertEqual(found, {
+            "front/ilobby": "10.0.0.1:3799", "front/4%0A%00%00%01": "10.0.0.1:3799",
+            "front/isix": "[fd00::1]:1700",
+            "front/6%FD%00%00%00%00%00%00%00%00%00%00%00%00%00%00%01": "[fd00::1]:1700"})
+
+
+class Settings(unittest.TestCase):
+    def config(self):
+        return mock.Mock(keys={"logins": "l" * 32}, clients={"front": {"secret": "b" * 32}})
+
+    def written(self, old):
+        text = files.text
+        with mock.patch.object(files, "text",
+                               lambda path: "c" * 32 + "\n" if path == setup.CODES else text(path)):
+            return setup.settings(old, self.config())
+
+    def test_radacctds_values_are_written_and_the_sites_stay(self):
+        text = self.written(None)
+        self.assertNotIn("change-me", text)
+        self.assertEqual([clients.value(text, it) for it in ("key", "book_secret", "code_key")],
+                         ["l" * 32, "b" * 32, "c" * 32])
+        mine = text.replace("observe = no", "observe = yes").replace("l" * 32, "older-key")
+        self.assertEqual(self.written(mine), text.replace("observe = no", "observe = yes"))
+
+    def test_a_key_of_codes_that_freeradius_has_stays(self):
+        for had, is_kept in (("\tcode_key = of-old-codes-0001\n", True), ("", False),
+                             ("\tcode_key = change-me-key\n", False)):
+            with mock.patch.object(files, "text", lambda _, it=had: it):
+                found = setup.code_key(wanted())
+            self.assertEqual(found == "of-old-codes-0001\n", is_kept)
+            self.assertRegex(found, "^[A-Za-z0-9-]{16,64}\n$")
+
+    def test_no_secret_is_shown(self):
+        with tempfile.TemporaryDirectory() as folder:
+            path = os.path.join(folder, "settings.conf")
+            files.make(path, self.written(None).encode())
+            os.chmod(path, 0o640)
+            said = steps.File(path, lambda old: re.sub("([lbc])\\1{31}", "x" * 32, old), 0o640).text()
+        self.assertEqual(re.findall("[lbcx]{32}", said), [])
+        self.assertIn("(a line with a secret)", said)
+
+
+class Users(unittest.TestCase):
+    def test_a_password_cannot_leave_its_line(self):
+        with tempfile.NamedTemporaryFile() as file:
+            for text, is_right in (('a"b', False), ("a\\b", False), ("a$b", False), ("a\nb", False),
+                                   ("%{x}", False), ("", False), ("é", False), ("a:b'c d", True)):
+                with open(file.name, "w", encoding="utf-8") as it:
+                    it.write(text + "\n")
+                if is_right:
+                    self.assertEqual(users.password(file.name), text)
+                else:
+                    self.assertRaises(steps.Failed, users.password, file.name)
+
+
+class InUse(unittest.TestCase):
+    def test_a_freeradius_of_the_sites_own_is_not_stopped(self):
+        changed = "??5?????? c /etc/freeradius/3.0/clients.conf\n"
+        for said, is_on, is_refused in ((changed, True, True), (changed, False, False),
+                                        ("", True, False)):
+            with mock.patch.object(look, "run", lambda *_, it=said: (2, it)), \
+                    mock.patch.object(setup, "is_debians_on", lambda it=is_on: it), \
+                    mock.patch.object(os.path, "exists", lambda _: True):
+                if is_refused:
+                    self.assertRaisesRegex(steps.Failed, "clients.conf", setup.refuse_if_in_use)
+                else:
+                    setup.refuse_if_in_use()
+
+
+class Configuration(unittest.TestCase):
+    def test_radacctd_gets_a_stamped_client_a_free_plan_and_a_key(self):
+        with mock.patch("radacctl.site.CONFIG", "/nonexistent"):
+            config = alone.Config(wanted(LOBBY))
+        found = tomllib.loads(config.wanted(""))
+        client = next(it for it in found["client"] if it["name"] == "front")
+        plan = next(it for it in found["plan"] if it["class"] == client["plan"])
+        self.assertEqual((client["stamped"], client["proxy"], plan["unit"]), (True, True, 0))
+        self.assertGreaterEqual(len(found["stamp"]["secret"]), 16)
+        self.assertEqual([it["token"] for it in found["key"] if it.get("logins")],
+                         [config.keys["logins"]])
+        own = {"class": "visitors", "block": 1000, "unit": 0}
+        with mock.patch("radacctl.site.CONFIG", "/nonexistent"):
+            config = alone.Config(answers.Answers({"plan": [PLAN, own]}))
+        self.assertEqual(config.clients["front"]["plan"], "visitors")
+
+
+class Looks(unittest.TestCase):
+    """What the doctor says of FreeRADIUS."""
+
+    LINES = (
+        "Info: Dropping packet without response because of error: Received Accounting-Request "
+        "packet from client 10.0.0.7 with invalid Request Authenticator!  (Shared secret is "
+        "incorrect.) (from client lobby)",
+        "Error: Ignoring request to acct address * port 1813 bound to server reports from unknown "
+        "client 10.0.0.9 port 32897 proto udp",
+    )
+
+    def ignored(self, *lines):
+        begin = time.strftime("%a %b %d %H:%M:%S %Y")
+        said = "".join(f"{begin} : {it}\n" for it in lines)
+        said += "lobby, no: x unknown client 10.0.0.11 port 1 proto udp\n"
+        with mock.patch.object(look, "must", lambda *_: said):
+            return [(it.name, it.text) for it in looks.ignored()]
+
+    def test_devices_that_are_not_answered(self):
+        secret, unknown = self.ignored(*self.LINES)
+        self.assertEqual((secret[0], unknown[0]), ("device-secret", "device-unknown"))
+        self.assertIn("10.0.0.7,", secret[1])
+        self.assertIn("10.0.0.9:", unknown[1])
+        storm = [self.LINES[1].replace("0.9", f"0.{it}") for it in range(1, 6)]
+        [(_, text)] = self.ignored(*storm, *storm)
+        self.assertIn("10.0.0.1, 10.0.0.2, 10.0.0.3 and 2 more:", text)
+
+    def test_reports_that_wait_and_that_were_set_aside(self):
+        now = time.time()
+        for waits, aside, names in ((None, None, []), (now - 60, None, []),
+                                    (now - 600, None, ["reports-wait"]),
+                                    (None, now, ["reports-aside"] * 3)):
+            oldest = lambda path, one=waits, two=aside: one if path.endswith("/waits") else two
+            with mock.patch.object(look, "oldest_kept", oldest):
+                self.assertEqual([it.name for it in looks.kept()], names)
+
+    def test_the_oldest_of_a_folder(self):
+        for said, found in (("\tTimestamp = 5\n\tTimestamp = 3\n", 3), ("", None),
+                            ("find: no such folder\n", None)):
+            with mock.patch.object(look, "run", lambda *_, it=said: (1, it)):
+                self.assertEqual(look.oldest_kept("/x"), found)
+
+    def test_what_differs_from_radacctd(self):
+        book = mock.Mock(desk=lambda: ("127.0.0.1", 8066), port=lambda: 11813, config="/x")
+        client = {"name": "front", "secret": "s", "stamped": True, "proxy": True}
+        text = "desk = 127.0.0.1:8066\nbook_port = 11813\nbook_secret = s\n"
+        for change, more, names in (("", {}, []), ("11813", {}, ["front-address"]),
+                                    ("8066", {}, ["front-address"]),
+                                    ("", {"secret": "t"}, ["front-secret"]),
+                                    ("", {"stamped": False}, ["front-secret"])):
+            with mock.patch.object(looks.books, "content",
+                                   lambda _, it=more: {"client": [{**client, **it}]}):
+                found = looks.to_radacctd(book, text.replace(change, "1") if change else text)
+                self.assertEqual([it.name for it in found], names, (change, more))
+
+    def test_a_key_that_the_desk_refuses(self):
+        for status, count in ((200, 0), (402, 0), (403, 1), (503, 1)):
+            with mock.patch.object(looks.desk, "ask", lambda *_, it=status: (it, b"")):
+                found = list(looks.answered(mock.Mock(config="/x"), "k"))
+            self.assertEqual(len(found), count, status)
+        with mock.patch.object(looks.desk, "ask", side_effect=ConnectionRefusedError("x")):
+            self.assertEqual([it.name for it in looks.answered(mock.Mock(), "k")], ["front-key"])
+
+
+if __name__ == "__main__":
+    unittest.main()

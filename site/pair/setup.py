@@ -1,0 +1,102 @@
+"""The steps to one machine of a pair, and the file of answers for the other one."""
+
+import hashlib
+import json
+import os
+import re
+
+from radacctl import files as on_disk, site
+from radacctl.doctor import look
+from radacctl.setup import alone, steps
+from radacctl.setup.steps import File, Folder
+
+HERE = os.path.dirname(os.path.realpath(__file__))
+RADDB, CONF = "/etc/radacctd-front", "/etc/radacctd-front/pair.conf"
+OTHER, WRITTEN = f"{alone.NOTES}/other-machine.toml", f"{alone.NOTES}/other-machine.written"
+# The one account that the try of a set-up uses.
+TEST = b"radacctd-setup"
+
+
+def files(answers, config):
+    """FreeRADIUS' part: what one book took goes to the other one."""
+    if not answers.pair:
+        return
+    # A book that has sold is not copied by a set-up.
+    others = set(look.balances()) - {TEST}
+    if others and not os.path.exists(CONF):
+        raise steps.Failed(f"the book has {len(others)} accounts already: make a pair of it by the "
+                           "steps of site/pair/README.md, which copy the book")
+    secret = secret_of(answers)
+    yield of_group("pair.conf", lambda old: conf(old, answers, secret))
+    for name in ("pair", "pair-taken"):
+        yield of_group(name, on_disk.text(f"{HERE}/raddb/{name}"))
+    yield Folder("/var/lib/radacctd-front/other", 0o700, site.RADIUS_USER, site.RADIUS_USER)
+    if not answers.secrets and not answers.pair["second"]:
+        shared = lambda: {**config.secrets(), "pair": secret}
+        yield Once(OTHER, lambda _: text(answers, shared()), 0o600)
+
+
+def of_group(name, change):
+    return File(f"{RADDB}/{name}", change, 0o640, of_group=site.RADIUS_USER)
+
+
+def secret_of(answers):
+    """What both machines share: that of the file, or a new one."""
+    found = re.search(r"(?m)^\s*secret = (\S+)$", on_disk.text(CONF))
+    return found[1] if found else alone.secret(answers, "pair")
+
+
+def conf(old, answers, secret):
+    """pair.conf with both addresses; the port stays."""
+    text = old or on_disk.text(f"{HERE}/raddb/pair.conf")
+    for name, value in (("address", answers.pair["own"]), ("other", answers.pair["other"]),
+                        ("secret", secret)):
+        text = re.sub(rf"(?m)^([^#\n]*?\b{name} = )[^\s,]+", rf"\g<1>{value}", text, count=1)
+    return text
+
+
+class Once(File):
+    """A file with secrets, which a person takes away: it is written again only if it is another."""
+
+    def mark(self):
+        return hashlib.sha256(self.wanted(None)).hexdigest() + "\n"
+
+    def is_done(self):
+        is_written = on_disk.text(WRITTEN) == self.mark()
+        return is_written and (super().is_done() or not os.path.lexists(self.path))
+
+    def do(self):
+        super().do()
+        File(WRITTEN, self.mark(), 0o600).do()
+
+
+def text(answers, secrets):
+    """The answers of the other machine, once all secrets are there."""
+    found = {name: value for name, value in answers.found.items() if value != {}}
+    # Only a person knows where access servers reach the other one.
+    found |= {"certificate": "", "certificate_key": "", "server": ""}
+    lists = {"plan": found.pop("plan"), "access_server": found.pop("access_server")}
+    tables = {"pair": {"own": answers.pair["other"], "other": answers.pair["own"], "second": True},
+              "sql": found.pop("sql", None), "secrets": secrets}
+    lines = ["# The other machine of the pair: radacctl setup --yes with this file. It has",
+             "# all secrets: once that is done, remove the first machine's, and the table",
+             "# [secrets] of the other one's, which is for upgrades.",
+             f"# Copy {alone.NOTES}/authority there before, so that devices trust both."]
+    if tables["sql"]:
+        path = tables["sql"]["password_file"]
+        lines.append(f"# The password of [sql] is not in it: copy {path}, too.")
+    lines += [f"{name} = {shown(it)}" for name, it in found.items() if name not in tables]
+    for name, rows in lists.items():
+        lines += [line for row in rows for line in ("", f"[[{name}]]", *members(row))]
+    for name, row in tables.items():
+        lines += ["", f"[{name}]", *members(row)] if row else []
+    return "\n".join(lines) + "\n"
+
+
+def members(row):
+    return [f"{json.dumps(name)} = {shown(value)}" for name, value in row.items()]
+
+
+def shown(value):
+    """A value as TOML has it: texts, numbers, truths, lists and no table."""
+    return json.dumps(value, ensure_ascii=False)
