@@ -6,18 +6,15 @@ import threading
 import time
 
 from promise_devices import BAD_NAMES, NAMES, SOURCES, logs_in
-from promise_model import Sale
-from promise_site import CASHIER
+from promise_model import Sale, stamp_of
+from promise_site import CASHIER, RICH, RICH_PLAN
 
-# How often a sale is given again after its answer, given with another sum, given up, or made at a
-# desk itself in the place of the outbox.
-AGAIN, CONFLICT, GIVEN_UP, STRAIGHT = 0.05, 0.05, 0.02, 0.2
+# How often a sale is given again after its answer, given with another sum, or given up.
+AGAIN, CONFLICT, GIVEN_UP = 0.05, 0.05, 0.02
 # How often a code is redeemed by two guests, and a guest gives up.
 TWO_GUESTS, TIRED = 0.3, 0.05
 # How long the program that redeems runs until it is killed, in seconds.
 SHORTEST, LONGEST = 0.01, 0.16
-# Whose logins are accepted.
-RICH = NAMES[0].encode()
 PLAIN = frozenset(map(chr, range(32, 127))) - frozenset('%"\\')
 
 
@@ -27,7 +24,7 @@ def shown(name):
 
 
 def post(port, account, total, number):
-    """The status of a desk or the outbox, or 0."""
+    """The status of a desk, or 0."""
     body = json.dumps({"account": shown(account), "sum": total, "voucher": number})
     caller = http.client.HTTPConnection("127.0.0.1", port, timeout=10)
     try:
@@ -72,10 +69,8 @@ class Cashier(Worker):
         rng = self.rng
         number = f"{self.prefix}-{self.made}"
         account, total = rng.choice(NAMES).encode(), rng.randrange(1, 5000)
-        is_straight = rng.random() < STRAIGHT
-        desks = (0,) if is_straight else (0, 1)
-        sale = self.model.sales[number] = Sale(number, account, total, desks)
-        port = self.site.book.desk if is_straight else self.site.outbox.port
+        sale = self.model.sales[number] = Sale(number, account, total)
+        port = self.site.book.desk
         if self.give(sale, port, account, total, GIVEN_UP):
             sale.answered.add(account)
             if rng.random() < AGAIN:
@@ -117,7 +112,7 @@ class Guests(Worker):
         rng, (code, total) = self.rng, self.codes.pop()
         people = [it.encode() for it in rng.sample(NAMES, 2 if rng.random() < TWO_GUESTS else 1)]
         number = "W-" + code
-        sale = self.model.sales[number] = Sale(number, people[0], total, (0, 1))
+        sale = self.model.sales[number] = Sale(number, people[0], total)
         sale.asked.update(people)
         asking = [
             threading.Thread(target=self.redeem, args=(sale, it, rng.random())) for it in people
@@ -145,7 +140,7 @@ class Guests(Worker):
 
 
 class Logins(Worker):
-    """Logins of names that cannot be charged, and of some that can."""
+    """Logins of names that nobody has, and of one who has money."""
 
     accepted = tried = bad = 0
 
@@ -153,7 +148,7 @@ class Logins(Worker):
         rng = self.rng
         is_bad = rng.random() < 0.7
         name = rng.choice(BAD_NAMES) if is_bad else RICH
-        code = logs_in(self.site.radius.auth, name, rng.choice(SOURCES))
+        code, stamp = logs_in(self.site.radius.logins, name, rng.choice(SOURCES))
         if is_bad:
             self.bad += code is not None
             if code == 2:
@@ -161,3 +156,5 @@ class Logins(Worker):
         else:
             self.tried += code is not None
             self.accepted += code == 2
+            if code == 2 and stamp != stamp_of(RICH_PLAN, RICH):
+                self.model.conflicts.append(f"a login of {name!r} by the Class {stamp!r}")

@@ -16,13 +16,13 @@ import socket
 import threading
 import time
 
-from promise_model import INTERIM, NAMELESS, START, STOP, WRONG, Report, Session
+from promise_model import INTERIM, START, STOP, WRONG, Report, Session
 
-SECRET = b"testing-123"
+SECRET = b"testing123"
 DAY, HOUR = 86_400, 3600
 SOURCES = [f"127.0.2.{number}" for number in range(1, 25)]
 GIB = 1 << 30
-# Names that can be charged, and names that cannot.
+# Names that many reports have, and names that a few have. Nobody logs in by one of these.
 NAMES = [f"user{number}" for number in range(40)]
 NAMES += ["Müller", "room 12", "o'neill", 'say "no"', "50%", "50%x", "a\\b", "&User-Name", "% {"]
 NAMES += ["UPPER", "=1+1", "+49 170", "@home", "-x", "a,b;c", "x" * 253, "$HOME", "`id`", "Łódź"]
@@ -31,10 +31,12 @@ NAMES += ["a{b}", "#1", "a/b", "a=b", "{x}", "%d", "e'e", "\\\\", "tab\\t", "\\n
 BAD_NAMES = [b"%{User-Name}", b"a%{", b"%%{Class}b", b" lead", b"trail ", b"'anton"]
 BAD_NAMES += [b"1.23457E+11", b"a\tb", b"\xff\xfe", b"\xc2\xa0nbsp", b"a\x7fb"]
 # Of a report: how often something odd is in it, or becomes of it.
-ODD, WRONG_FORM, RFC_6929, NO_NAME, LATE, AGAIN, TWICE, OVERTAKEN = (
-    0.08, 0.002, 0.002, 0.002, 0.004, 0.08, 0.04, 0.05)  # fmt: skip
-# Of a session: a device that gives up, an odd id.
-GIVES_UP, ODD_ID = 0.02, 0.08
+ODD, RFC_6929, LATE, AGAIN, TWICE, OVERTAKEN = 0.08, 0.002, 0.004, 0.08, 0.04, 0.05
+# Of a report: one more of a session that was over long ago. It is refused, and holds up kept ones.
+TOO_LATE = 0.0003
+# Of a session: a device that gives up, an odd id, a wrong form, an odd name, and a device that says
+# another name than that of the stamp.
+GIVES_UP, ODD_ID, WRONG_FORM, ODD_NAME, OUTER = 0.02, 0.08, 0.002, 0.02, 0.1
 # How many sessions are open at most.
 OPEN = 250
 # Seconds until a report is sent again, at first and at most.
@@ -122,11 +124,11 @@ class Sending:
         session = it.session
         delay = int(now) - int(it.moment)
         low = [it.input & 0xFFFFFFFF, it.output & 0xFFFFFFFF, it.seconds]
-        parts = [(40, number(it.status)), (44, session.identifier), (1, session.account)]
+        parts = [(40, number(it.status)), (44, session.identifier), (1, session.said)]
         parts += [(kind, number(value)) for kind, value in zip((42, 43, 46), low)]
-        parts += [(4, socket.inet_aton(session.source)), (32, b"ap " + session.source.encode())]
-        if session.plan:
-            parts.append((25, session.plan))
+        parts += [(4, socket.inet_aton(session.source)), (32, session.nas())]
+        if session.stamp:
+            parts.append((25, session.stamp))
         if it.input >> 32 or it.output >> 32:
             parts += [(52, number(it.input >> 32)), (53, number(it.output >> 32))]
         if it.status == STOP:
@@ -172,7 +174,6 @@ def odd_attributes(rng):
         [(33, rng.randbytes(8)), (33, rng.randbytes(3))],
         [(8, rng.randbytes(4)), (31, b"02-00-00-" + rng.randbytes(3).hex("-").encode())],
         [(30, b""), (31, b"x" * 253)],
-        [(8, b"\x0a\1\2"), (49, b"\1")],
     ]
     return [pair for pair in rng.choice(kinds) if pair[1]]
 
@@ -184,9 +185,9 @@ def extended(rng):
 
 
 def wrong(rng):
-    """Attributes of a wrong form, which nobody can charge."""
-    return rng.choice([[(42, b"\1\2")], [(43, b"\1\2\3")], [(52, number(1 << 30))],
-                       [(53, number(1 << 31))]])
+    """Attributes of a wrong form, by which nothing is charged."""
+    return rng.choice([[(42, b"\1\2")], [(43, b"\1\2\3")], [(52, number(1 << 31))],
+                       [(53, number(1 << 31))], [(8, b"\x0a\1\2")], [(49, b"\1")]])
 
 
 class Devices(threading.Thread):
@@ -264,13 +265,13 @@ class Devices(threading.Thread):
         """One more report: of a new session, or of one that is open."""
         rng = self.rng
         self.made += 1
-        if self.old and rng.random() < 0.01:
+        if self.old and rng.random() < TOO_LATE:
             self.give(Sending(self.again_old(), self.of(self.old_one), [], TRIES))
             return
         session = self.new_session() if self.is_new() else rng.choice(self.open)
         last = session.reports[-1] if session.reports else None
         status = START if last is None else STOP if rng.random() < 1 / self.length else INTERIM
-        if status == STOP:
+        if status == STOP or session.kind == WRONG:
             self.open.remove(session)
         self.report(session, status, last)
 
@@ -288,17 +289,17 @@ class Devices(threading.Thread):
     def new_session(self, is_old=False):
         rng, count = self.rng, len(self.model.sessions)
         identifier = f"{count:06x}-{rng.randrange(1 << 24):06x}".encode()
-        account, plan = rng.choice(NAMES).encode(), rng.choice(PLANS_SENT)
+        account = rng.choice(BAD_NAMES) if rng.random() < ODD_NAME else rng.choice(NAMES).encode()
+        plan = rng.choice(PLANS_OLD if is_old else PLANS_SENT)
         if rng.random() < ODD_ID:
             identifier += rng.choice(
                 [b" a\\b", 'ä"q"'.encode(), b"'%d", b"x" * 200, b"%{User-Name}", b"\\\\n", b"&a"]
             )
         session = Session(count, rng.choice(SOURCES), identifier, account, plan)
-        chance = rng.random()
-        if chance < NO_NAME and not is_old:
-            session.kind, session.account = NAMELESS, rng.choice(BAD_NAMES)
-        elif chance < NO_NAME + WRONG_FORM and not is_old:
+        if rng.random() < WRONG_FORM and not is_old:
             session.kind, session.form = WRONG, wrong(rng)
+        if session.stamp and rng.random() < OUTER:
+            session.said = rng.choice([b"anonymous", *BAD_NAMES, NAMES[1].encode()])
         session.is_old, session.gives_up = is_old, rng.random() < GIVES_UP
         self.model.sessions.append(session)
         if not is_old:
@@ -327,10 +328,10 @@ class Devices(threading.Thread):
             more = odd_attributes(rng)
         elif rng.random() < RFC_6929:
             more = extended(rng)
-        tries = TRIES if session.gives_up else None
+        tries = TRIES if session.gives_up or session.kind == WRONG else None
         wait = rng.uniform(0, 3) if rng.random() < OVERTAKEN else 0
         self.give(Sending(report, self.of(session), more, tries), wait)
-        if rng.random() < AGAIN:
+        if rng.random() < AGAIN and session.kind != WRONG:
             self.later(rng.expovariate(1 / 20), lambda: self.say_again(report, more))
 
     def say_again(self, report, more):
@@ -366,7 +367,6 @@ class Devices(threading.Thread):
         for _ in range(count):
             session = self.new_session(True)
             session.is_old = is_old
-            session.plan = self.rng.choice([b"gold", b"down", b"default"])
             octets = self.rng.randrange(9 << 20), self.rng.randrange(9 << 20)
             moment = time.time() - self.rng.randrange(youngest, oldest)
             session.reports.append(
@@ -377,14 +377,17 @@ class Devices(threading.Thread):
 
 
 PLANS_SENT = [b"gold", b"gold", b"up", b"down", b"free", b"default", b"unknown", b""]
+PLANS_OLD = [b"gold", b"down", b"default"]
 
 
 def logs_in(port, name, source):
-    """What FreeRADIUS answers to a login of a name: 2 if it may, 3 if not, None if nothing."""
+    """What FreeRADIUS answers to a login of a name, 2 if it may, 3 if not, None if nothing; and the
+    Class that it gives.
+    """
     authenticator = os.urandom(16)
     key = hashlib.md5(SECRET + authenticator).digest()
     hidden = bytes(one ^ other for one, other in zip(b"right".ljust(16, b"\0"), key))
-    parts = attribute(1, name) + attribute(2, hidden) + attribute(87, b"gold")
+    parts = attribute(1, name) + attribute(2, hidden)
     zero = attribute(80, bytes(16))
     head = bytes([1, 7]) + (20 + len(parts) + len(zero)).to_bytes(2, "big") + authenticator
     proof = hmac.new(SECRET, head + parts + zero, hashlib.md5).digest()
@@ -394,9 +397,15 @@ def logs_in(port, name, source):
         try:
             opened.connect(("127.0.0.1", port))
             opened.send(head + parts + attribute(80, proof))
-            return opened.recv(4096)[0]
+            reply = opened.recv(4096)
         except OSError:
-            return None
+            return None, None
+    found, at = None, 20
+    while at < len(reply):
+        if reply[at] == 25:
+            found = reply[at + 2 : at + reply[at + 1]]
+        at += reply[at + 1]
+    return reply[0], found
 
 
 def leave_out_odd():

@@ -230,6 +230,8 @@ class Small:
 
     def fill(self, spare):
         """Takes all space but so many octets."""
+        # What was taken before a power cut may be there again.
+        self.free()
         found, at = os.statvfs(self.place), 0
         octets = max(found.f_bavail * found.f_frsize - spare, 0)
         with open(os.path.join(self.place, "filler"), "wb") as file:
@@ -242,8 +244,9 @@ class Small:
 
     def fill_inodes(self):
         """Takes all inodes."""
+        self.free()
         path = os.path.join(self.place, "filler")
-        os.makedirs(path, exist_ok=True)
+        os.makedirs(path)
         with contextlib.suppress(OSError):
             for number in itertools.count():
                 os.close(os.open(os.path.join(path, str(number)), os.O_CREAT | os.O_WRONLY))

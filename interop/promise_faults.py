@@ -16,8 +16,9 @@ STEPS = [-2, 2, -30, 30, -600, 600, -HOUR, HOUR, -DAY, DAY, -15 * DAY, 15 * DAY]
 FAR = [400 * DAY, -400 * DAY, 100 * DAY, -100 * DAY]
 # Seconds that a step and a full disk last.
 STEP, FULL = (2, 25), (2, 9)
-# A restart of a program comes after a pause of so long.
-PAUSE = (0, 1.5)
+# A restart of a program comes after a pause of so long; one of radacctd at times so late that
+# FreeRADIUS keeps reports.
+PAUSE, OUTAGE, OUTAGES = (0, 1.5), (4, 15), 0.15
 
 
 class Journal:
@@ -88,22 +89,13 @@ class Plan(threading.Thread):
             disk.free()
         self.journal.add("full disk", begin, f"inodes {by_inodes}, spare {spare}")
 
-    # Of the books.
+    # Of the book.
 
     def kill_book(self):
         begin = time.monotonic()
-        self.site.book.kill_and_start(self.pause())
+        is_long = self.rng.random() < OUTAGES
+        self.site.book.kill_and_start(self.rng.uniform(*OUTAGE) if is_long else self.pause())
         self.journal.add("kill of radacctd", begin)
-
-    def kill_other(self):
-        begin = time.monotonic()
-        self.site.other.kill_and_start(self.pause())
-        self.journal.add("kill of the other radacctd", begin)
-
-    def kill_outbox(self):
-        begin = time.monotonic()
-        self.site.outbox.kill_and_start(self.pause())
-        self.journal.add("kill of the outbox", begin)
 
     # Of clocks.
 

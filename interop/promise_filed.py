@@ -1,5 +1,5 @@
-"""The reports that FreeRADIUS filed in interop/promise: which of them could not be charged, which
-were too old, and which were filed without need.
+"""The reports that FreeRADIUS set aside in interop/promise: which of them cannot be charged, which
+were too old, and which are to be sent again.
 """
 
 import collections
@@ -7,68 +7,45 @@ import os
 import re
 import time
 
-from promise_model import NAMELESS, PROBE, WRONG
+from promise_model import WRONG, device
 
 LINE = re.compile(rb'^\t([A-Za-z0-9-]+) = (.*)$', re.MULTILINE)
-ESCAPED = re.compile(rb"\\([0-7]{3}|.)", re.DOTALL)
-PLAIN = {b"n": b"\n", b"r": b"\r", b"t": b"\t"}
-OWN = (b"\tAcct-Delay-Time", b"\tPacket-", b"\tTmp-", b"\tTimestamp")
-NEEDLESS = "without need"
+FINE = "while radacctd was away"
 
 
-def text_of(value):
-    """The octets of a text in a file of FreeRADIUS."""
-    if not value.startswith(b'"'):
-        return value
-
-    def one(found):
-        inside = found[1]
-        return bytes([int(inside, 8)]) if len(inside) == 3 else PLAIN.get(inside, inside)
-
-    return ESCAPED.sub(one, value[1:-1])
-
-
-def key_of(identifier):
-    """What the book knows a session by, but for the digest of the person."""
-    return identifier.rpartition(b"/")[0]
+def octets(value):
+    """What a line of a kept report has: these two are octets in the front's dictionary."""
+    return bytes.fromhex(value[2:].decode()) if value.startswith(b"0x") else value
 
 
 def sorted_out(radius, model):
-    """How many reports were filed for which reason, and which records are to be put back: each with
-    its session.
-    """
+    """How many reports were set aside for which reason, and which records are to be sent again."""
     counts, again, keys = collections.Counter(), [], model.keys()
-    for record in radius.records(radius.unsent):
-        pairs = {name: text_of(value) for name, value in LINE.findall(record)}
-        session = keys.get(key_of(pairs.get(b"Acct-Session-Id", b"")))
-        if session is None:
-            if pairs.get(b"User-Name") != PROBE:
+    for folder in ("aside", "lost"):
+        for record in radius.records(folder):
+            pairs = {name: octets(value) for name, value in LINE.findall(record)}
+            key = device(pairs.get(b"NAS-Identifier", b"")), pairs.get(b"Acct-Session-Id", b"")
+            session = keys.get(key)
+            if session is None:
                 model.strange.append(record.decode("latin-1"))
-            continue
-        session.filed.append(pairs.get(b"Acct-Input-Octets", b"?").decode())
-        why = reason(session)
-        counts[why] += 1
-        if why == NEEDLESS:
-            again.append((session, record))
+                continue
+            session.filed.append(pairs.get(b"Acct-Input-Octets", b"?").decode())
+            why = reason(session)
+            counts[f"{folder}, {why}"] += 1
+            if why == FINE and folder == "aside":
+                again.append(record)
     return counts, again
 
 
 def reason(session):
-    """Why a report was filed."""
-    kinds = {WRONG: "of a wrong form", NAMELESS: "of a name that cannot be charged"}
-    return kinds.get(session.kind) or ("too old" if session.is_old else NEEDLESS)
-
-
-def corrected(record):
-    """A record without what the clock and the queue put into it."""
-    lines = [it for it in record.split(b"\n") if not it.startswith(OWN)]
-    return b"\n".join([*lines, b"\tTimestamp = %d" % time.time()])
+    """Why a report was set aside."""
+    return "of a wrong form" if session.kind == WRONG else "too old" if session.is_old else FINE
 
 
 def put_back(radius, records):
-    """As the page says: to the queue's folder itself."""
+    """Has them sent again, as the cut-off's loop does each hour."""
     with radius.looks:
-        path = os.path.join(radius.queue, "detail-again")
-        with open(path + ".new", "wb") as file:
-            file.write(b"".join(corrected(it) + b"\n\n" for it in records))
-        os.rename(path + ".new", path)
+        path = os.path.join(radius.kept, "again", "unfinished")
+        with open(path, "wb") as file:
+            file.write(b"".join(it + b"\n\n" for it in records))
+        os.rename(path, os.path.join(radius.kept, "again", time.strftime("%Y%m%d%H")))

@@ -2,15 +2,15 @@
 
 It has no line in common with the program and its tools. A session is charged once: the price, by
 its plan, of the greatest total that was accepted. What was answered was accepted, what was sent and
-not answered may have been. A Start without a Class and without octets is answered and left out. A
-voucher and a code are credited once in each book, to one account.
+not answered may have been. Whose stamp a report has pays by its plan, whatever name the device says;
+without one the name pays by the plan of the client. A voucher and a code are credited once, to one
+account.
 """
 
 import collections
 import csv
-import hashlib
+import hmac
 import io
-import re
 import urllib.parse
 
 BOTH, IN, OUT = "both", "in", "out"
@@ -23,15 +23,33 @@ PLANS = {
     b"free": (MEBIBYTE, 0, BOTH),
     b"default": (1_000_000, 5, BOTH),
 }
+# The plan of reports without a stamp, and what a stamp is made with.
+UNSTAMPED, STAMP_SECRET, LONGEST = b"free", b"stamp-secret-of-tests", 253
+SAID = set(b"ABCDEFGHIJKLMNOPQRSTUVWXYZabcdefghijklmnopqrstuvwxyz0123456789._-")
 START, STOP, INTERIM = 1, 2, 3
-# A report of a wrong form, and one of a name that nobody can be charged by.
-FINE, WRONG, NAMELESS = "fine", "wrong", "nameless"
-PROBE = b"radacctd-probe"
+# A report of a wrong form is never answered.
+FINE, WRONG = "fine", "wrong"
 # By how many seconds the moment of a session may be another one in the book.
 EDGE = 5
 # By how many seconds radacctd's own clock is set off at most, and a minute more.
 OFF = 15 * 86_400 + 60
-ID = re.compile(rb"[-A-Za-z0-9_.:@+,;=/]{1,150}")
+
+
+def coded(octets):
+    """As a stamp spells a plan or a name, and the book a device."""
+    return b"".join(bytes([it]) if it in SAID else b"%%%02X" % it for it in octets)
+
+
+def stamp_of(plan, account):
+    """The Class of a login, or nothing if it would be too long."""
+    text = coded(plan) + b";;" + coded(account) + b";"
+    stamp = text + hmac.new(STAMP_SECRET, b"stamp;" + text, "md5").hexdigest().encode()
+    return stamp if len(stamp) <= LONGEST else b""
+
+
+def device(nas):
+    """How the book names the device that says this NAS-Identifier, behind the front."""
+    return b"front/n" + coded(nas)
 
 
 class Report:
@@ -48,10 +66,6 @@ class Report:
         """Octets from and to the user, as the book is to have them."""
         return self.input, self.output
 
-    def is_left_out(self):
-        """Whether it is a Start that moves no money and has no Class: a later report has it."""
-        return self.status == START and not self.session.plan and not self.input + self.output
-
     def counted(self):
         one, other = self.numbers()
         return {BOTH: one + other, IN: one, OUT: other}[self.session.mode()]
@@ -65,7 +79,11 @@ class Report:
 class Session:
     def __init__(self, number, source, identifier, account, plan):
         self.number, self.source, self.identifier = number, source, identifier
-        self.account, self.plan, self.kind = account, plan, FINE
+        self.account, self.kind = account, FINE
+        self.stamp = stamp_of(plan, account) if plan else b""
+        self.plan = plan if self.stamp else UNSTAMPED
+        # What the device says as the name: with a stamp it may be any.
+        self.said = account
         self.reports, self.filed = [], []
         # Whether it was over long before the test began.
         self.is_old = False
@@ -85,23 +103,22 @@ class Session:
         return self.is_old and self.reports[-1].moment < moment + EDGE
 
     def least(self):
-        """What was answered at most, and not left out, or None."""
-        found = (it for it in self.reports if it.answered and not it.is_left_out())
-        return max((it.counted() for it in found), default=None)
+        """What was answered at most, or None."""
+        return max((it.counted() for it in self.reports if it.answered), default=None)
 
     def most(self):
         return max((it.counted() for it in self.reports if it.sent), default=None)
 
+    def nas(self):
+        return b"ap " + self.source.encode()
+
     def key(self):
-        """How the book spells its source and identifier, but for the digest of the person."""
-        if ID.fullmatch(self.identifier):
-            return self.source.encode() + b"/" + self.identifier
-        digest = hashlib.sha256(self.identifier).hexdigest().encode()
-        return self.source.encode() + b"//" + digest
+        """How the book knows it: the device and its identifier, which no two sessions share."""
+        return device(self.nas()), self.identifier
 
     def history(self, began):
         """What happened to it, as lines, and its moments."""
-        name = f"  session {self.key().decode('latin-1')} of {self.account!r}, plan {self.plan!r}"
+        name = f"  session {self.key()} of {self.account!r}, plan {self.plan!r}"
         lines = [name, *(it.history(began) for it in self.reports), f"  filed: {self.filed}"]
         return lines, [at for it in self.reports for at, _ in it.sent]
 
@@ -109,8 +126,8 @@ class Session:
 class Sale:
     """A voucher that was sold, or a code that was redeemed, for an account."""
 
-    def __init__(self, number, account, total, desks):
-        self.number, self.account, self.total, self.desks = number, account, total, desks
+    def __init__(self, number, account, total):
+        self.number, self.account, self.total = number, account, total
         # For whom it was answered, who asked, and what was said when.
         self.answered, self.asked, self.said = set(), {account}, []
 
@@ -139,7 +156,8 @@ class Found:
             name = account, row["client"].strip("()").split(")")[0].encode()
             self.lines[name] = self.lines.get(name, 0) + charged
             return
-        key = octets(row["session"]).rpartition(b"/")[0]
+        # Behind its identifier are the login and who pays.
+        key = row["client"].encode(), octets(row["session"]).rsplit(b"/", 2)[0]
         if key in self.sessions:
             self.again.append(row)
         self.sessions[key] = row
@@ -185,7 +203,7 @@ class Model:
     def keys(self):
         return {it.key(): it for it in self.sessions}
 
-    def faults(self, found, other, carried_before):
+    def faults(self, found, carried_before):
         """What is not as it must be, each as a text with its history."""
         keys = self.keys()
         yield from self.strangers(found, keys)
@@ -199,9 +217,7 @@ class Model:
                 yield from row_faults(session, row)
         yield from line_faults(found.lines, missing)
         yield from balance_faults(found)
-        yield from self.sale_faults(found.topups, 0)
-        yield from self.sale_faults(other.topups, 1)
-        yield from self.spent_twice(found.topups, other.topups)
+        yield from self.sale_faults(found.topups)
         yield from ((f"answered {it}", None) for it in self.conflicts)
         yield from ((f"logged in: {it!r}", None) for it in self.intruders)
 
@@ -210,32 +226,21 @@ class Model:
         yield from ((f"two rows of one session: {row}", None) for row in found.again)
         yield from ((f"filed, and nobody sent it: {it}", None) for it in self.strange)
         for key, row in found.sessions.items():
-            if key not in keys and row["account"] != PROBE:
+            if key not in keys:
                 yield f"a session that nobody sent: {row}", None
 
-    def spent_twice(self, one, other):
-        """What each book has for another account, whatever was answered."""
-        for number in set(one) & set(other):
-            if one[number] != other[number]:
-                text = f"spent twice: {number}: {one[number]} and {other[number]}"
-                yield text, self.sales.get(number)
-
-    def sale_faults(self, topups, desk):
-        """Of the book of one desk."""
+    def sale_faults(self, topups):
         strange = set(topups) - set(self.sales)
-        yield from ((f"desk {desk}: a voucher that nobody sold: {it}", None) for it in strange)
+        yield from ((f"a voucher that nobody sold: {it}", None) for it in strange)
         for sale in self.sales.values():
             got = topups.get(sale.number)
-            if len(sale.answered) > 1 and desk == 0:
+            if len(sale.answered) > 1:
                 yield f"answered to several: {sale.number} to {sale.answered}", sale
-            elif desk not in sale.desks:
-                if got is not None:
-                    yield f"desk {desk} has what it was not given: {sale.number}", sale
             elif got is None and sale.answered:
-                yield f"desk {desk}: lost: {sale.number} of {sale.answered}", sale
+                yield f"lost: {sale.number} of {sale.answered}", sale
             elif got is not None and (got[0] not in (sale.answered or sale.asked)
                                       or got[1] != sale.total):
-                yield f"desk {desk}: {sale.number}: {got}, sold {sale.total}", sale
+                yield f"{sale.number}: {got}, sold {sale.total}", sale
 
 
 def row_faults(session, row):
@@ -244,10 +249,10 @@ def row_faults(session, row):
     if session.kind == WRONG:
         if row is not None:
             yield f"charged, and of a wrong form: {row}", session
-        elif least is not None and not session.filed:
-            yield "answered, of a wrong form, and not filed", session
+        elif least is not None:
+            yield "answered, and of a wrong form", session
     elif row is None:
-        if least is not None and not (session.kind == NAMELESS and session.filed):
+        if least is not None:
             yield "answered, and not in the book", session
     elif row["account"] != session.account:
         yield f"charged to {row['account']!r}", session

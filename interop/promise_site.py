@@ -1,33 +1,36 @@
-"""The site of interop/promise: FreeRADIUS in front of a book, a second book that gets the sales
-alone, the outbox of both, and printed codes. Each program may be killed at any moment, and
-FreeRADIUS and its book have clocks that the test sets.
+"""The site of interop/promise: FreeRADIUS in front of a book, and printed codes. Each program may be
+killed at any moment, and FreeRADIUS and its book have clocks that the test sets.
 """
 
 import contextlib
 import ctypes
 import glob
-import http.client
-import json
 import os
 import signal
-import socket
 import subprocess
+import sys
+import tempfile
 import threading
 import time
 
 import front
 from front import KILL, ROOT
+from promise_devices import NAMES
 from promise_disk import Small
-from promise_model import PLANS
+from promise_model import PLANS, STAMP_SECRET, UNSTAMPED
 from redeeming import live
 
-TOOLS = os.path.join(ROOT, "etc", "tools")
-OUTBOX = os.path.join(ROOT, "etc", "pair", "radacctd-outbox")
+sys.path.insert(0, os.path.join(ROOT, "site", "front"))
+import test_lab
+
 CASHIER = KILL.CASHIER
+# Who has a password and money, and the plan of his group.
+RICH, RICH_PLAN = NAMES[0].encode(), b"gold"
+FOLDERS = ("waits", "aside", "again", "lost")
 FAKETIME = "/usr/lib/*/faketime/libfaketimeMT.so.1"
 # How long a program may take to start, in seconds.
 STARTS = 180
-# The queue's file system: its MiB and inodes.
+# The file system of kept reports: its MiB and inodes.
 MEBIBYTES, INODES = 96, 512
 # Of sync_file_range: write, and wait until it is written.
 WRITE_AND_WAIT = 2 | 4
@@ -123,13 +126,26 @@ class Book(Killed, front.Book):
         self.has_clock = self.takes_clock()
 
     def configuration(self):
-        name, address = front.FRONT
-        client = f'name = "{name}"\naddress = "{address}"\nsecret = "{front.BOOK_SECRET}"\n'
-        text = f"[[client]]\n{client}"
+        text = f'''[stamp]
+secret = "{STAMP_SECRET.decode()}"
+[[client]]
+name = "front"
+address = "127.0.0.1"
+secret = "book-secret-1"
+stamped = true
+proxy = true
+plan = "{UNSTAMPED.decode()}"
+[[key]]
+token = "{CASHIER}"
+cashier = true
+[[key]]
+token = "desk-key-logins-0001"
+logins = true
+'''
         for plan, (block, unit, count) in PLANS.items():
             text += f'[[plan]]\nclass = "{plan.decode()}"\nblock = {block}\nunit = {unit}\n'
             text += f'count = "{count}"\n'
-        return text + f'[[key]]\ntoken = "{CASHIER}"\ncashier = true\n'
+        return text
 
     def words(self, command, *more):
         return [KILL.PROGRAM, command, "--config", self.config, "--db", self.book, *more]
@@ -165,29 +181,47 @@ class Book(Killed, front.Book):
         return done.stdout
 
 
-class FreeRadius(Killed, front.FreeRadius):
-    """FreeRADIUS with the shipped files, whose queue is on a file system of its own."""
+class FreeRadius(Killed, test_lab.Lab):
+    """FreeRADIUS by the files of site/front, whose kept reports are on a file system of its own."""
 
-    def __init__(self, folder, book, clock, settings):
+    def __init__(self, folder, book, clock):
         Killed.__init__(self)
-        self.own_clock = clock
-        self.disk = Small(folder, os.path.join(folder, "radacct"), MEBIBYTES, INODES)
+        self.own_clock, self.folder, self.settings = clock, folder, {}
+        self.path = lambda *it: os.path.join(folder, *it)
+        self.raddb, self.kept, self.out = map(self.path, ("raddb", "kept", "freeradius.log"))
+        self.logins, self.reports = (test_lab.free_port() for _ in range(2))
+        self.book_port, self.ask = book.radius, book.desk
+        self.users = self.made_users()
+        self.row(self.users, "radcheck", RICH.decode(), "Cleartext-Password", "right")
+        self.user(RICH.decode(), RICH_PLAN.decode())
+        self.group(RICH_PLAN.decode(), Class=RICH_PLAN.decode())
+        self.made_folder()
+        # FreeRADIUS makes no file whose path begins with /dev/.
+        self.kept = tempfile.mkdtemp(prefix="promise-kept-")
+        self.disk = Small(folder, self.kept, MEBIBYTES, INODES)
+        for it in FOLDERS:
+            os.makedirs(os.path.join(self.kept, it))
+        os.sync()
+        self.written_settings()
         # Whoever looks at the files of the disk, or takes it away.
         self.looks = threading.RLock()
-        front.FreeRadius.__init__(self, folder, book, settings=settings)
-        self.process = None
         # How often it ended by itself.
         self.ended = 0
+
+    def words(self, *more):
+        """As root: libfaketime's semaphore is of who started it."""
+        return ["freeradius", *more, "-d", self.raddb]
+
+    def is_right(self):
+        return subprocess.run(self.words("-C", "-l", "stdout"), capture_output=True, text=True)
 
     def start(self):
         if self.is_ended:
             return
-        begun = os.path.getsize(self.log) if os.path.exists(self.log) else 0
-        environment = self.own_clock.environment()
-        null = subprocess.DEVNULL
-        self.process = subprocess.Popen(
-            self.words("-f"), stdout=null, stderr=null, env=environment
-        )
+        begun = os.path.getsize(self.out) if os.path.exists(self.out) else 0
+        with open(self.out, "ab") as file:
+            self.process = subprocess.Popen(self.words("-f", "-l", "stdout"), stdout=file,
+                                            stderr=file, env=self.own_clock.environment())
         end = time.monotonic() + STARTS
         while not self.is_ready(begun):
             if time.monotonic() > end or self.process.poll() is not None:
@@ -195,16 +229,12 @@ class FreeRadius(Killed, front.FreeRadius):
             time.sleep(0.02)
 
     def is_ready(self, begun):
-        if not os.path.exists(self.log):
-            return False
-        with open(self.log, "rb") as file:
+        with open(self.out, "rb") as file:
             file.seek(begun)
             return b"Ready to process requests" in file.read()
 
     def revive(self):
-        """Starts it again if it ended by itself, as its unit does. Debian's does so now and then, by
-        signal 11, if many requests come again at once.
-        """
+        """Starts it again if it ended by itself, as its unit does."""
         if not self.lock.acquire(blocking=False):
             return
         try:
@@ -216,18 +246,19 @@ class FreeRadius(Killed, front.FreeRadius):
             self.lock.release()
 
     def tail(self):
-        return "".join(self.logged().splitlines(True)[-20:])
+        with open(self.out, encoding="utf-8", errors="replace") as file:
+            return "".join(file.readlines()[-20:])
 
     def cut(self, how, seed, pause):
-        """The power of the queue's disk goes, whatever FreeRADIUS does just then, and comes back.
-        What it has sent by then counts as answered, and nothing later.
+        """The power of the disk goes, whatever FreeRADIUS does just then, and comes back. What it
+        has sent by then counts as answered, and nothing later.
         """
         with self.lock, self.looks:
             if self.is_up():
                 self.process.send_signal(signal.SIGSTOP)
             time.sleep(0.02)
             if seed % 2:
-                write_back(front.files_in(self.queue))
+                write_back(self.files("waits"))
             lost = self.disk.cut(how, seed)
             self.kill()
             time.sleep(pause)
@@ -235,18 +266,22 @@ class FreeRadius(Killed, front.FreeRadius):
             self.start()
         return lost
 
-    def records(self, folder):
-        """The records of the files in a folder, as the lines of each."""
+    def files(self, folder):
+        found = glob.glob(os.path.join(glob.escape(self.kept), folder, "*"))
+        return [it for it in found if os.path.isfile(it)]
+
+    def records(self, *folders):
+        """The reports that are kept in folders, as the lines of each."""
         with self.looks:
             found = []
-            for path in front.files_in(folder):
+            for path in [path for it in folders for path in self.files(it)]:
                 with contextlib.suppress(FileNotFoundError), open(path, "rb") as file:
                     found += [it for it in file.read().split(b"\n\n") if b"\tTimestamp" in it]
             return found
 
     def queued(self):
-        """How many reports wait. The mark of one that was sent on is Donestamp."""
-        return len(self.records(self.queue))
+        """How many reports wait. The mark of one that was sent is Donestamp."""
+        return len(self.records("waits", "again"))
 
 
 def write_back(paths):
@@ -258,34 +293,6 @@ def write_back(paths):
     for path in paths:
         with contextlib.suppress(FileNotFoundError), open(path, "rb") as file:
             libc.sync_file_range(file.fileno(), whole, whole, WRITE_AND_WAIT)
-
-
-class Outbox(Killed):
-    """The outbox of both desks."""
-
-    def __init__(self, folder, desks):
-        super().__init__()
-        self.port = KILL.free_port(socket.SOCK_STREAM)
-        self.keys = os.path.join(folder, "keys")
-        with open(os.open(self.keys, os.O_CREAT | os.O_WRONLY, 0o600), "w") as file:
-            file.write(CASHIER + "\n")
-        places = [f"127.0.0.1:{port}" for port in desks]
-        self.errors = os.path.join(folder, "outbox-errors")
-        self.command = [OUTBOX, "--listen", f"127.0.0.1:{self.port}", "--key-file", self.keys]
-        self.command += ["--db", os.path.join(folder, "outbox.db")]
-        self.command += ["--own", places[0], "--other", places[1]]
-
-    def start(self):
-        self.begin(self.command, self.errors)
-
-    def waits(self):
-        """How many vouchers wait for a desk, or None if it does not say."""
-        try:
-            caller = http.client.HTTPConnection("127.0.0.1", self.port, timeout=5)
-            caller.request("GET", "/waiting")
-            return sum(json.loads(caller.getresponse().read())["waiting"].values())
-        except (OSError, ValueError, KeyError, http.client.HTTPException):
-            return None
 
 
 # Redeems a code, and prints the status of the page for what became of it.
@@ -302,10 +309,8 @@ print({"new": 200, "repeat": 200, "differs": 409, "no such code": 404}.get(said,
 class Codes:
     """Printed codes, and a process that redeems one, as a worker of the pages' service does."""
 
-    def __init__(self, folder, key, port):
-        with open(key, encoding="ascii") as file:
-            token = file.readline().strip()
-        self.service = live.Service(os.path.join(folder, "codes"), port, token)
+    def __init__(self, folder, port):
+        self.service = live.Service(os.path.join(folder, "codes"), port, CASHIER)
         self.kills = self.runs = 0
 
     def print(self, count, total):
@@ -338,44 +343,30 @@ class Site:
 
     def __init__(self, folder):
         self.folder = folder
-        self.clocks = {it: Clock(folder, it) for it in ("front", "book", "other")}
-        self.book = Book(os.path.join(folder, "a"), self.clocks["book"])
-        self.other = Book(os.path.join(folder, "b"), self.clocks["other"])
-        settings = [("oldest_report", "0")]
-        self.radius = FreeRadius(folder, self.book, self.clocks["front"], settings)
-        self.outbox = Outbox(folder, self.desks())
-        self.codes = Codes(folder, self.outbox.keys, self.outbox.port)
-
-    def desks(self):
-        return self.book.desk, self.other.desk
+        os.chmod(folder, 0o755)
+        self.clocks = {it: Clock(folder, it) for it in ("front", "book")}
+        self.book = Book(os.path.join(folder, "book"), self.clocks["book"])
+        self.radius = FreeRadius(folder, self.book, self.clocks["front"])
+        self.codes = Codes(folder, self.book.desk)
 
     def start(self):
         done = self.radius.is_right()
         if done.returncode:
             raise SystemExit(f"FreeRADIUS takes not the files: {done.stdout[-2000:]}")
-        for it in (self.book, self.other, self.outbox, self.radius):
-            it.start()
-        self.radius.mirrors(self.book)
-
-    def limit(self, days):
-        """From now on a report is too old after so many days."""
-        self.radius.kill()
-        self.book.stop()
-        path = os.path.join(self.radius.raddb, "radacctd", "settings.conf")
-        with open(path, encoding="utf-8") as file:
-            text = file.read().replace("oldest_report = 0", f"oldest_report = {days}")
-        front.written(path, text)
-        self.book.more = ["--oldest-report", str(days)]
         self.book.start()
         self.radius.start()
 
+    def limit(self, days):
+        """From now on a report is too old after so many days."""
+        self.book.stop()
+        self.book.more = ["--oldest-report", str(days)]
+        self.book.start()
+
     def end(self):
-        for it in (self.radius, self.outbox, self.book, self.other):
+        for it in (self.radius, self.book):
             it.end_it()
-        mirroring = self.radius.mirroring
-        if mirroring is not None and mirroring.poll() is None:
-            mirroring.kill()
-            mirroring.wait()
+        self.radius.users.close()
         self.radius.disk.end()
+        os.rmdir(self.radius.kept)
 
 

@@ -101,7 +101,7 @@ def devices_of(it):
     packed = ipaddress.ip_address(it["address"]).packed
     encoded = "".join(chr(at) if re.match(r"[\w.-]", chr(at), re.ASCII) else f"%{at:02X}"
                       for at in packed)
-    return f"i{it['name']}", ("6" if len(packed) > 4 else "4") + encoded
+    return f"n{it['name']}", ("v" if len(packed) > 4 else "a") + encoded
 
 
 def cut_toml(text, asked):

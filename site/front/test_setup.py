@@ -69,9 +69,9 @@ class CutOff(unittest.TestCase):
         self.assertEqual(clients.cut_toml(text, asked), text)
         found = {it["client"]: it["address"] for it in tomllib.loads(text)["access_server"]}
         self.assertEqual(found, {
-            "front/ilobby": "10.0.0.1:3799", "front/4%0A%00%00%01": "10.0.0.1:3799",
-            "front/isix": "[fd00::1]:1700",
-            "front/6%FD%00%00%00%00%00%00%00%00%00%00%00%00%00%00%01": "[fd00::1]:1700"})
+            "front/nlobby": "10.0.0.1:3799", "front/a%0A%00%00%01": "10.0.0.1:3799",
+            "front/nsix": "[fd00::1]:1700",
+            "front/v%FD%00%00%00%00%00%00%00%00%00%00%00%00%00%00%01": "[fd00::1]:1700"})
 
 
 class Settings(unittest.TestCase):

@@ -120,7 +120,7 @@ class Book:
         number = lambda kind: int.from_bytes(first.get(kind, b""), "big")
         device = client["name"]
         if client.get("proxy"):
-            for letter, kind in (("i", NAS_NAME), ("6", 95), ("4", NAS_ADDRESS)):
+            for letter, kind in (("n", NAS_NAME), ("v", 95), ("a", NAS_ADDRESS)):
                 if kind in first:
                     device += f"/{letter}{encoded(first[kind])}"
                     break
