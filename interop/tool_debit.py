@@ -171,9 +171,6 @@ def debit_defaults(site, debit):
         status, _, errors = run([*words, "al", "10", "PORT-3"], env=env)
         said = "Something listens there. If it is FreeRADIUS" in errors
         check("and if another program does", (status, said), (3, True))
-    write(path + "-pair", "RADACCTD_OWN=10.0.0.5\n")
-    status, _, errors = run([*words, "al", "10", "PORT-4"], env=env)
-    check("of a pair it is FreeRADIUS", (status, "127.0.0.1 port 1813 to" in errors), (3, True))
     check("nothing more is taken", site.balance(), before - 20)
 
 

@@ -60,7 +60,6 @@ ALLOWED = {
     },
     "docs/START.md": {
         "/desk/": "a page of the service",
-        **each("a member of the answers", "left_out", "virtual_servers"),
         "/root/radacctd-setup": "radacctl setup makes it",
         **each("a table of the answers", "[sql]"),
         "~before-": "a part of a name that radacctl setup makes",

@@ -23,9 +23,8 @@ HEADER = b"moment,event,number,account,sum\n"
 GIVEN, ANSWERED = "given", "answered"
 # How often the report is sent, and how long an answer is waited for each time, in seconds.
 TRIES, PATIENCE = 5, 3
-# What the unit of the server reads, and what a machine of a pair has.
+# What the unit of the server reads.
 DEFAULTS = os.environ.get("RADACCTD_DEFAULTS", site.DEFAULTS)
-PAIR = DEFAULTS + "-pair"
 LINES = f"""\
 [[client]]
 name = "{CLIENT}"
@@ -220,10 +219,7 @@ class Books:
         text = f"no answer of {host} port {port} to {number}: give it again, it is taken once. "
         if self.is_refused:
             return f"{text}Nothing listens there. Is the server up? {DEFAULTS} has its port"
-        text += "Something listens there. "
-        if os.path.exists(PAIR):
-            return f"{text}Of a pair it is FreeRADIUS: does it have the client {CLIENT}?"
         return (
-            f"{text}If it is FreeRADIUS, radacctd has another port: write it into {DEFAULTS}, or "
+            f"{text}Something listens there. If it is FreeRADIUS, radacctd has another port: write it into {DEFAULTS}, or "
             f"give --port. If it is radacctd, its log says why it drops a report"
         )

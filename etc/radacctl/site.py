@@ -11,7 +11,6 @@ COUNTS = "/var/lib/radacctd-counts/radacctd.prom"
 BACKUPS = "/var/backups/radacctd"
 DEFAULTS = "/etc/default/radacctd"
 # What a machine of a pair has.
-PAIR = f"{DEFAULTS}-pair"
 # The journals of root's tools, the secret of the client that takes debits, and FreeRADIUS' database
 # as the last night found it.
 BOOKS, BOOKS_SECRET = "/var/lib/radacctd-books", "/etc/radacctd-books.secret"

@@ -17,17 +17,16 @@ CLIENT, CLASS, SOURCE = "books", "debit", "127.0.0.9"
 PLANS = os.environ.get("RADACCTD_PLANS", "/var/lib/radacctd-balances/plans.json")
 WANTED = {"block": 1, "unit": 1, "count": "both"}
 DEFAULTS = os.environ.get("RADACCTD_DEFAULTS", "/etc/default/radacctd")
-USUAL, PAIR = ("127.0.0.1", 1813), "/etc/default/radacctd-pair"
+USUAL = "127.0.0.1", 1813
 # How often a report is sent, and how long an answer is waited for each time, in seconds.
 TRIES, PATIENCE = 2, 3
 
 
 def where():
-    """Where radacctd hears reports. Of a pair it is FreeRADIUS, which gives them to both books."""
+    """Where radacctd hears reports."""
     text = ""
-    if not os.path.exists(PAIR):
-        with contextlib.suppress(OSError), open(DEFAULTS, encoding="utf-8") as file:
-            text = file.read()
+    with contextlib.suppress(OSError), open(DEFAULTS, encoding="utf-8") as file:
+        text = file.read()
     values = dict(re.findall(r'(?m)^(RADACCTD_\w+)="?([^"\n]*)', text))
     binds = re.findall(r"--bind[ =](\S+)", values.get("RADACCTD_BIND", ""))
     host = binds[0] if binds and not {USUAL[0], "0.0.0.0"} & set(binds) else USUAL[0]

@@ -148,6 +148,8 @@ class Configuration(unittest.TestCase):
         self.assertGreaterEqual(len(found["stamp"]["secret"]), 16)
         self.assertEqual([it["token"] for it in found["key"] if it.get("logins")],
                          [config.keys["logins"]])
+        self.assertEqual([it["token"] for it in found["key"] if it.get("accounts")],
+                         [config.keys["site"]])
         own = {"class": "visitors", "block": 1000, "unit": 0}
         with mock.patch("radacctl.site.CONFIG", "/nonexistent"):
             config = alone.Config(answers.Answers({"plan": [PLAN, own]}))

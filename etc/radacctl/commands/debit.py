@@ -20,9 +20,8 @@ before the first one is sent, names included: what could not log in, or is the w
 spreadsheet, is refused. It may be given again.
 
 The server is at the address and the port of /etc/default/radacctd (RADACCTD_BIND and
-RADACCTD_RADIUS_PORT), else at 127.0.0.1, port 1813, unless --host and --port say otherwise. Of a
-pair, if /etc/default/radacctd-pair is there, the debit goes to FreeRADIUS at 127.0.0.1, port 1813,
-which gives it to both books.
+RADACCTD_RADIUS_PORT), else at 127.0.0.1, port 1813, unless --host and --port say otherwise. Of two
+machines each takes its own.
 
 The journal, /var/lib/radacctd-books/debits.csv, has each debit before it is sent. A NUMBER that was
 given with another account or sum is refused. Of one that was taken before it says so; of a file it
@@ -90,11 +89,7 @@ def list_debits(path):
 
 
 def server_of(path):
-    """The address and the port of the server, as the file says that its unit reads. Of a pair it is
-    FreeRADIUS that takes debits, for both books.
-    """
-    if os.path.exists(debits.PAIR):
-        return HERE_AND_1813
+    """The address and the port of the server, as the file says that its unit reads."""
     try:
         values = look.values_in(path)
     except OSError as fault:

@@ -102,17 +102,18 @@ class Config:
         """The cashiers' keys of the front desk and the tools, and of the pages' service; and that
         of the front, which asks what a login may use.
         """
-        known = [it["token"] for it in self.found.get("key", []) if it.get("cashier") is True]
-        found = {}
-        for name, path in (("cashier", desk.CASHIER_KEY), ("site", site.SITE_KEY)):
+        found, keys = {}, self.found.get("key", [])
+        for name, path, more in (("cashier", desk.CASHIER_KEY, {}),
+                                 ("site", site.SITE_KEY, {"accounts": True})):
+            known = [it["token"] for it in keys if it.get("cashier") is True
+                     and it.get("accounts", False) == bool(more)]
             key = files.text(path).split("\n")[0].strip()
             if key not in known:
                 # That of a run which was killed before it wrote the file, or a new one.
-                used = [*found.values(), files.text(site.SITE_KEY).strip()]
-                key = next((it for it in known if it not in used), None)
+                key = next(iter(known), None)
             if key is None:
                 key = self.answers.secrets.get(name) or f"{name}-{secrets.token_hex(16)}"
-                self.more.append(block("key", {"token": key, "cashier": True}))
+                self.more.append(block("key", {"token": key, "cashier": True, **more}))
             found[name] = key
         tokens = [it["token"] for it in self.found.get("key", []) if it.get("logins") is True]
         if self.answers.has_front:
