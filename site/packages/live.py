@@ -6,20 +6,24 @@ package says; validity, devices, the slow end, an end at once. Then the desk is 
 killed at each step that writes, and the service KILLS times (40) while cashiers sell: at last each
 code that logs in has its sum in the book once, and each that was said to be sold logs in.
 
-    [RADACCTD=.../radacctd] site/packages/live.py [KILLS]
+    [RADACCTD=.../radacctd] site/packages/live.py [KILLS | machine]
 
-Without RADACCTD a stand-in of the front's tests is the desk. RADACCTD_SEED chooses the moments. It
-needs root, Debian's freeradius, freeradius-rest, freeradius-utils, gunicorn, python3-bottle,
-python3-jinja2 and strace. It ends with 0 if all is as it should be, else with 1.
+Without RADACCTD a stand-in of the front's tests is the desk. RADACCTD_SEED chooses the moments. With
+`machine` it sells codes on a machine that `radacctl setup` made, by its units and users: for that the
+program is built (bin/build), and it needs systemd-container, debootstrap and curl. Else it needs
+root, Debian's freeradius, freeradius-rest, freeradius-utils, gunicorn, python3-bottle, python3-jinja2
+and strace. It ends with 0 if all is as it should be, else with 1.
 """
 
 import contextlib
 import os
 import random
+import re
 import shutil
 import sqlite3
 import subprocess
 import sys
+import tempfile
 import threading
 import time
 
@@ -27,8 +31,10 @@ sys.dont_write_bytecode = True
 ROOT = os.path.dirname(os.path.dirname(os.path.dirname(os.path.realpath(__file__))))
 sys.path[:0] = [os.path.join(ROOT, it) for it in ("interop", "etc", "site/front")]
 
+import machine
 import radacctl  # it finds the kit
 import served
+import start_site
 import test_lab as lab
 import test_radius as radius
 from radacctd_site.core import codes
@@ -265,8 +271,57 @@ def chaos(site, kills):
     check(f"{len(said)} codes that were said to be sold are", set(said[:-3]) - known, set())
 
 
-def main():
-    kills = int(sys.argv[1]) if sys.argv[1:] else 40
+class Box:
+    """A machine that the set-up made, with nginx, units and users as a site has them."""
+
+    def __init__(self, box, folder):
+        self.box, self.jar = box, os.path.join(folder, "jar")
+        start_site.prepare(box, folder)
+        start_site.set_up(box)
+        clients = box.must(f"cat {start_site.FRONT}/clients.conf")
+        self.secret = re.search(r"client radacctd-setup \{\n.*\n\tsecret = (\S+)", clients)[1]
+
+    def logs_in(self, code):
+        pairs = f"User-Name={code},User-Password={code},Packet-Src-IP-Address=127.0.0.8"
+        said = self.box.run(f"echo '{pairs}' | radclient -x 127.0.0.1 auth {self.secret}")[1]
+        return "Received Access-Accept" in said
+
+    def page(self, path, **fields):
+        """What the form of a page has, or of the answer to one that is sent."""
+        words = ["curl", "-sk", "-m", "20", "--resolve", f"{start_site.HOST}:443:127.0.0.1", "-b",
+                 self.jar, "-c", self.jar, f"https://{start_site.HOST}{path}"]
+        words += [it for name, value in fields.items() for it in ("--data-urlencode",
+                                                                  f"{name}={value}")]
+        said = self.box.beside(words)[1]
+        return dict(re.findall('name="(token|code)" value="([^"]+)"', said))
+
+    def sold(self):
+        """The code that a cashier sells at the page."""
+        notes = self.box.must(f"cat {start_site.NOTES}/cashiers.txt")
+        password = re.search(r"(?m)^anna (\S+)$", notes)[1]
+        self.page("/login/", name="anna", password=password, **self.page("/login/"))
+        form = self.page("/packages/")
+        self.page("/packages/", act="make", package="day 300", **form)
+        return form["code"]
+
+
+def on_machine():
+    with tempfile.TemporaryDirectory() as folder:
+        machine.staged(folder)
+        with machine.Machine(start_site.PACKAGES, states=("running", "degraded")) as found:
+            site = Box(found, folder)
+            found.must("radacctl package put day --plan default --sum 3.00 --valid 24h")
+            code = found.must("radacctl code make day").splitlines()[1]
+            sold = site.sold()
+            check("a code of the command and one of the page log in",
+                  (site.logs_in(code), site.logs_in(sold)), (True, True))
+            found.must(f"radacctl code end {code}; systemctl start radacctd-minute")
+            check("one that is ended does not", (site.logs_in(code), site.logs_in(sold)),
+                  (False, True))
+            check("the doctor finds nothing", start_site.is_sound(found), [])
+
+
+def on_loopback(kills):
     print(f"over {lab.OVER}")
     with Lab() as front:
         site = Site(front)
@@ -280,6 +335,13 @@ def main():
             chaos(site, kills)
         finally:
             site.service.kill()
+
+
+def main():
+    if sys.argv[1:] == ["machine"]:
+        on_machine()
+    else:
+        on_loopback(int(sys.argv[1]) if sys.argv[1:] else 40)
     print("failed:", served.failures)
     return 1 if served.failures else 0
 
