@@ -65,8 +65,7 @@ def show(db, what):
     writer, site = csv.writer(sys.stdout, lineterminator="\n"), money.of_site(places.SETTINGS)
     writer.writerow(COLUMNS)
     for it in found:
-        moment = packages.moment(it["made"])
-        row = {**it, "sum": site.plain(it["sum"]), "made": moment}
+        row = {**it, "sum": site.plain(it["sum"]), "made": packages.moment(it["made"])}
         writer.writerow([names.cell(str(row[name])) for name in COLUMNS])
 
 

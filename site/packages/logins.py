@@ -53,7 +53,9 @@ def why_not(name):
 
 def make(db, book, made):
     """Makes logins, and sells each by one credit. One that is there already stays as it is."""
-    taken = users.names()[0] | {names.shown(it) for it in accounts.known()[0]}
+    taken = users.names()[0]
+    if any(it.name == it.account for it in made):
+        taken |= {names.shown(it) for it in accounts.known()[0]}
     with db:
         db.execute("BEGIN IMMEDIATE")
         for it in made:
@@ -83,8 +85,7 @@ def is_new(db, it, taken):
 
 def act_of(it):
     it = Login(*it)
-    account = names.for_desk(it.account.encode())
-    return Act(it.number, account, it.sum, KIND, it.who)
+    return Act(it.number, names.for_desk(it.account.encode()), it.sum, KIND, it.who)
 
 
 def listed(db, where="true", *values, most=-1):
