@@ -18,6 +18,7 @@ MORE_KEYS = f"""
 [[key]]
 token = "{SITE_KEY}"
 cashier = true
+accounts = true
 """
 
 

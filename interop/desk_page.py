@@ -41,7 +41,7 @@ def certificate(box):
 
 
 def put_store(box, key):
-    """The steps of "What sells", with a cashier's key; the secret of debits may be there already."""
+    """The steps of "What sells", with a cashier's key; the secret of debits may be there."""
     lines = steps_of("## What sells", "## Put a proxy in front")
     start = next(at for at, it in enumerate(lines) if it.startswith("systemctl enable"))
     more = [f"echo {key} > {KEY_FILE}",

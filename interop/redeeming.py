@@ -41,14 +41,15 @@ def redeem(run, url, account, code, *more):
 
 def sold(run, url, name, password, account, total, *more):
     """The text of the receipt of a cashier who logs in, and sells."""
-    it = Visitor(run, url, *more)
-    it.post("/login/", name=name, password=password)
+    visitor = Visitor(run, url, *more)
+    visitor.post("/login/", name=name, password=password)
     fields = {"account": account, "sum": total}
-    words = [part for key, value in fields.items() for part in ("--data-urlencode", f"{key}={value}")]
-    token = re.search(r'name="token" value="(\w+)"', it.get("/desk/"))
-    asked = run([*it.words, *words, "-d", f"token={token and token[1]}", f"{url}/desk/"])[1]
+    words = [it for pair in fields.items() for it in ("--data-urlencode", "=".join(pair))]
+    token = re.search(r'name="token" value="(\w+)"', visitor.get("/desk/"))
+    asked = run([*visitor.words, *words, "-d", f"token={token and token[1]}", f"{url}/desk/"])[1]
     number = re.search(r'name="number" value="([^"]+)"', asked)
-    return it.get(it.post("/desk/", **fields, number=number and number[1], sure="yes")[1])
+    sold_at = visitor.post("/desk/", **fields, number=number and number[1], sure="yes")[1]
+    return visitor.get(sold_at)
 
 
 def sheet(run, count, total="5.00"):

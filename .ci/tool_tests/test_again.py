@@ -121,7 +121,7 @@ class Again(Folder):
     def test_the_doctor_asks_for_socket_and_pages(self):
         self.patched(of_web.look, "is_active", lambda _: True)
         self.patched(of_web, "SOCKET", os.path.join(self.folder, "none"))
-        self.assertIn("is not there", next(of_web.answers("")).text)
+        self.assertIn("there is no", next(of_web.answers("")).text)
         self.patched(of_web, "SOCKET", self.folder)
         for status, count in ((503, 3), (200, 1), ("ConnectionRefusedError", 3)):
             self.patched(of_web, "asked", lambda *_, it=status: it)

@@ -9,8 +9,8 @@ import tomllib
 import unittest
 from unittest import mock
 
-from radacctl import configuration, debits, desk, files, keys, main, stock
-from radacctl.commands import debit, key, sell
+from radacctl import configuration, debits, files, keys, main, stock
+from radacctl.commands import debit, key
 from tool_tests import ROOT, Folder
 
 CONFIG = '''# A site.
@@ -133,14 +133,6 @@ class Debits(unittest.TestCase):
             self.assertRaises(stock.Fault, debits.Journal, path)
             journal.close()
             debits.Journal(path).close()
-
-
-class Answers(unittest.TestCase):
-    def test_causes_of_the_desk_are_an_imports(self):
-        found = [sell.judged(it, 0, b"") for it in (desk.NEW, desk.DIFFERS, desk.LIMIT)]
-        self.assertEqual(found, ["new", "VoucherDiffers", "BalanceLimit"])
-        for it in (desk.NO_KEY, desk.STRANGE):
-            self.assertRaises(sell.Stop, sell.judged, it, 401, b"")
 
 
 class Cards(Folder):

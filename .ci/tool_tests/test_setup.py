@@ -9,8 +9,8 @@ import subprocess
 import unittest
 from unittest import mock
 
-from radacctl import files, money as moneys, postgres, site as places
-from radacctl.commands import allow, setup, site
+from radacctl import files, postgres, site as places
+from radacctl.commands import debit, setup, site
 from radacctl.setup import alone, answers, steps, web
 import tool_tests
 
@@ -306,8 +306,7 @@ class Others(Folder):
         for octets in (b'account,sum,number,code\n"' + b"x" * 200_000,
                        b'account,sum,number,code\n"a"\rb,c,d\n', b"code\ra\rb"):
             self.write(octets)
-            wrong = allow.names.WrongFile
-            self.assertRaises(wrong, allow.rows_of, self.path, "2026-12", 5, moneys.Money())
+            self.assertRaises(debit.names.WrongFile, debit.debits_of, self.path)
 
 
 if __name__ == "__main__":

@@ -14,7 +14,6 @@ COMMANDS = {
     "doctor": "says what is wrong with a site, and what to do",
     "key": "makes, ends and lists guests' keys",
     "debit": "takes money from an account, once",
-    "allow": "credits each account of a list once a month",
     "report": "reports a day or a month",
     "night": "copies the site for the night",
     "site": "copies what a site has besides the book",

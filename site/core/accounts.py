@@ -1,7 +1,7 @@
-"""What the book says of its accounts: the balances that it writes, and what its desk tells a cashier.
+"""What the book says of its accounts: the balances that it writes, and what its desk tells.
 
-radacctd writes the file of balances every few seconds. A desk that tells cashiers of no account
-answers 404: then nobody knows its sessions here.
+radacctd writes the file of balances every few seconds. Its desk tells of an account only to a key
+that has `accounts = true`.
 """
 
 import csv

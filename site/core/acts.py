@@ -2,8 +2,8 @@
 
 A row has the number, the account and the sum of a credit, or of a correction: then the sum is below
 0. It is on the disk before the one request, and gets the answer after it. What has none is sent
-again each minute: the book takes a number once, for one account and one sum, so that nothing else has
-to guard it.
+again each minute: the book takes a number once, for one account and one sum, so that nothing else
+has to guard it.
 """
 
 import collections
@@ -12,7 +12,7 @@ import time
 
 from radacctd_site.core import desk as desks
 
-# What is known of each credit, and where it comes from: the name of what is done, and a cashier. What
+# What is known of each act, and where it comes from: the name of what is done, and a cashier. What
 # was paid is the sum itself, unless it is said.
 Act = collections.namedtuple("Act", "number account sum kind who paid", defaults=[None])
 TABLES = """
@@ -66,8 +66,8 @@ def again(db, book):
     the desk does not understand keeps nothing else back.
     """
     done = 0
-    for row in db.execute("SELECT number, account, sum, kind, who, paid FROM act WHERE answer IS NULL "
-                          "ORDER BY begun, number").fetchall():
+    for row in db.execute("SELECT number, account, sum, kind, who, paid FROM act "
+                          "WHERE answer IS NULL ORDER BY begun, number").fetchall():
         found = send(db, book, Act(*row))
         if found in (desks.AWAY, desks.NO_KEY):
             break
@@ -93,13 +93,13 @@ def second_of(day):
 
 
 def of_days(db, first, last, who=None):
-    """What was paid in some days, by the moment of the book's answer, or else as it was begun; by one
-    person, or all.
+    """What was paid in some days, by the moment of the book's answer, or else as it was begun; by
+    one person, or all.
     """
     end = second_of(last + datetime.timedelta(days=1))
-    return db.execute("SELECT *, coalesce(answered, begun) AS moment FROM act WHERE paid <> 0 AND "
-                      "moment >= ? AND moment < ? AND (? IS NULL OR who = ?) ORDER BY moment, rowid",
-                      (second_of(first), end, who, who)).fetchall()
+    return db.execute("SELECT *, coalesce(answered, begun) AS moment FROM act WHERE paid <> 0 "
+                      "AND moment >= ? AND moment < ? AND (? IS NULL OR who = ?) "
+                      "ORDER BY moment, rowid", (second_of(first), end, who, who)).fetchall()
 
 
 def waiting(db):

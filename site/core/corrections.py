@@ -1,7 +1,7 @@
 """Takes money from an account: a report (RFC 2866) of the client `books`, by the plan `debit`.
 
-The plan costs 1 for each octet, and the report has as many octets as are to be taken. Its session is
-the number of what is taken back: so the same report again takes nothing more.
+The plan costs 1 for each octet, and the report has as many octets as are to be taken. Its session
+is the number of what is taken back: so the same report again takes nothing more.
 """
 
 import contextlib

@@ -10,8 +10,8 @@ USUAL = "/var/lib/radacctd-site"
 FOLDER = os.environ.get("RADACCTD_SITE", USUAL)
 DATABASE = os.path.join(FOLDER, "site.db")
 SETTINGS = os.environ.get("RADACCTD_SETTINGS", money.SETTINGS)
-# The key of a cashier for the book's desk, and the secret of the client that corrects. systemd hands
-# them to the service, whose user may not read the files.
+# The key of a cashier for the book's desk, and the secret of the client that corrects. systemd
+# hands them to the service, whose user may not read the files.
 KEY, SECRET = (os.path.join(os.environ.get("CREDENTIALS_DIRECTORY", "/etc"), it)
                for it in ("radacctd-site.key", "radacctd-books.secret"))
 

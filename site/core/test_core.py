@@ -206,7 +206,8 @@ class Roles(Site):
         browsers = {role: self.browser(role) for role in (CASHIER, OPERATOR)}
         browsers[features.NOBODY] = self.browser()
         forged, guest = self.browser(), self.browser()
-        forged.cookies, guest.cookies = {web.COOKIE: "0" * 32}, {"__Host-guest": "a-guest-key-00001"}
+        forged.cookies = {web.COOKIE: "0" * 32}
+        guest.cookies = {"__Host-guest": "a-guest-key-00001"}
         for page in features.listed("PAGES"):
             path = re.sub("<[^>]+>", "x", page.path)
             for role, browser in (*browsers.items(), (features.NOBODY, forged),

@@ -4,6 +4,7 @@ from radacctd_site.core.features import STAFF, Entry, Page
 
 COMMANDS = {
     "sell": ("sells to an account, or credits a file of vouchers", "sell"),
+    "allow": ("credits each account of a list once a month", "allow"),
     "sales": ("prints what was sold and taken back, by day and cashier", "ledger"),
     "balance": ("prints what is left on an account", "balance"),
 }
@@ -20,8 +21,9 @@ PAGES = [
 MENU = [Entry("/desk/", "Sell", STAFF), Entry("/desk/find/", "Find an account", STAFF),
         Entry("/desk/shift/", "Shift", STAFF)]
 TABLES = """
-CREATE TABLE IF NOT EXISTS shift (id INTEGER PRIMARY KEY, who TEXT NOT NULL, ended INTEGER NOT NULL)
-    STRICT;
-CREATE TABLE IF NOT EXISTS counted (number TEXT NOT NULL, account TEXT NOT NULL, sum INTEGER NOT NULL,
-    shift INTEGER NOT NULL REFERENCES shift, PRIMARY KEY (number, account, sum)) STRICT;
+CREATE TABLE IF NOT EXISTS shift (id INTEGER PRIMARY KEY, who TEXT NOT NULL,
+    ended INTEGER NOT NULL) STRICT;
+CREATE TABLE IF NOT EXISTS counted (number TEXT NOT NULL, account TEXT NOT NULL,
+    sum INTEGER NOT NULL, shift INTEGER NOT NULL REFERENCES shift,
+    PRIMARY KEY (number, account, sum)) STRICT;
 """

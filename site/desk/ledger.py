@@ -1,7 +1,7 @@
 """Prints what was sold and taken back, by day and cashier, or each sale as CSV for the ledger.
 
-A sale counts on the day on which the book took it. `radacctl sell` is (command). Vouchers that guests
-redeemed have no cashier.
+A sale counts on the day on which the book took it. `radacctl sell` is (command). Vouchers that
+guests redeemed have no cashier.
 """
 
 import datetime
@@ -11,7 +11,7 @@ from radacctd_site.desk import sales
 
 
 def arguments(it):
-    it.add_argument("--first", metavar="DAY", help="the first day, as 2026-12-31: today, if left out")
+    it.add_argument("--first", metavar="DAY", help="the first day, as 2026-12-31; else today")
     it.add_argument("--last", metavar="DAY", help="the last day")
     it.add_argument("--csv", action="store_true", help="print each sale as a line of CSV")
 
@@ -34,8 +34,9 @@ def main(words):
         print(sales.csv_of(rows, site), end="")
         return 0
     for day, who, it in acts.by_day(rows):
-        print(f"{day}  {who or 'vouchers':16} {it['count']:5} sales  sold {site.shown(it['sold'])}, "
-              f"taken back {site.shown(-it['back'])}, net {site.shown(it['net'])}")
+        sold, back, net = map(site.shown, (it["sold"], -it["back"], it["net"]))
+        print(f"{day}  {who or 'vouchers':16} {it['count']:5} sales  sold {sold}, "
+              f"taken back {back}, net {net}")
     if waiting := sum(acts.state_of(it) == acts.WAITING for it in rows):
         print(f"{waiting} have no answer yet: they are in no sum")
     return 0

@@ -1,12 +1,12 @@
 #!/usr/bin/python3
 """The front desk over the built program: cashiers at once, kills, a full disk, an older book.
 
-Cashiers sell at the pages' service, which gunicorn runs, at the desk of a book that RADACCTD serves.
-They take sales back, and use numbers of each other, while the service and the book are killed KILLS
-times (200) at random moments. At last the exports of the book have each sale that a page called
-sold, each correction that it called done, nothing twice, and nothing that site.db does not have. Then
-`radacctl sell` is killed at each step that writes, and finds a full disk; site.db is full; an older
-book is put back.
+Cashiers sell at the pages' service, which gunicorn runs, at the desk of a book that RADACCTD
+serves. They take sales back, and use numbers of each other, while the service and the book are
+killed KILLS times (200) at random moments. At last the exports of the book have each sale that a
+page called sold, each correction that it called done, nothing twice, and nothing that site.db does
+not have. Then `radacctl sell` is killed at each step that writes, and finds a full disk; site.db is
+full; an older book is put back.
 
     RADACCTD=.../radacctd site/desk/live.py [KILLS]
 
@@ -36,10 +36,16 @@ import radacctl  # it finds the kit
 import served
 from radacctd_site.core import codes, corrections, live, names
 from radacctd_site.core.live import Service
-from served import CASHIER, PLANS, check
+from served import PLANS, check, report
 
 ACCOUNTS, PASSWORD = ("alice", "bob", "müller", "room 12"), "a-long-enough-one"
+KEY = "site-key-000000001"
 MORE = f"""
+[[key]]
+token = "{KEY}"
+cashier = true
+accounts = true
+
 [[client]]
 name = "{corrections.CLIENT}"
 address = "{corrections.SOURCE}"
@@ -118,20 +124,37 @@ def by_page(server, service):
     for status in (303, 409):
         check("a sale is taken back once",
               anna.post("/desk/back/", "/desk/", number=number, sure="yes"), status)
-    for _ in range(150):
-        balance = service.run("balance", "bob")[1].split("  ")[0]
-        if balance == "5.00 EUR":
-            break
-        time.sleep(0.1)
-    check("the balance of an account", balance, "5.00 EUR")
+    check("the balance of an account", balance_of(service, "bob", "5.00 EUR"), "5.00 EUR")
     check("an account is found", (anna.get("/desk/find/?account=alice"), "0.00" in anna.text),
           (200, True))
-    check("the ledger", service.run("sales")[1].count("net 5.00 EUR"), 1)
+    sessions(server, service, anna)
+    check("the ledger", service.run("sales")[1].count("net 10.00 EUR"), 1)
     anna.post("/desk/shift/", sure="yes")
     check("a shift ends", "The shift has ended" in anna.text, True)
     server.kill()
     check("the book has one correction", server.taken(), {number: ("alice", 500)})
     server.start()
+
+
+def balance_of(service, account, wanted):
+    """What is left of an account, once that is so: the book writes it every few seconds."""
+    end = time.monotonic() + 20
+    while (found := service.run("balance", account)[1].split("  ")[0]) != wanted:
+        if time.monotonic() > end:
+            break
+    return found
+
+
+def sessions(server, service, browser):
+    """A guest who is on is seen by a cashier, and by the commands of an operator."""
+    sell(browser, "room 12")
+    server.radclient(report("Start", "1A-1", 3 << 20, ["Calling-Station-Id = 02-00"]))
+    check("a session is charged", balance_of(service, "room 12", "4.70 EUR"), "4.70 EUR")
+    check("a cashier sees a session", (browser.get("/desk/find/?account=room+12"),
+          [it for it in ("02-00", "3.1\u00a0MB", "still on") if it not in browser.text]), (200, []))
+    for command in (["who"], ["show", "room 12"]):
+        status, said = service.run(*command)
+        check(f"radacctl {command[0]}", (status, "3,145,728 octets" in said), (0, True))
 
 
 class Chaos:
@@ -252,7 +275,7 @@ def full_disk(server, folder):
     os.mkdir(place)
     if subprocess.run(["mount", "-t", "tmpfs", "-o", "size=1m", "tmpfs", place]).returncode:
         return print("left out: a full disk, since nothing can be mounted here")
-    service = Service(place, server.desk, CASHIER)
+    service = Service(place, server.desk, KEY)
     service.of_book(server.folder, server.radius)
     try:
         service.start()
@@ -264,7 +287,7 @@ def full_disk(server, folder):
                 pass
         fields = {"account": "carl", "sum": "5.00", "number": number, "sure": "yes"}
         check("on a full disk nothing is sold", browser.post("/desk/", **fields), 503)
-        check("and the page says so", "Nothing was sold, and nothing was sent" in browser.text, True)
+        check("and the page says so", "Nothing was sold, and nothing was" in browser.text, True)
         os.remove(f"{place}/fill")
         server.kill()
         check("the book has nothing of it", number in server.sold(), False)
@@ -308,7 +331,7 @@ def main():
         server = Server(f"{folder}/book")
         server.init()
         server.start()
-        service = Service(f"{folder}/site", server.desk, CASHIER)
+        service = Service(f"{folder}/site", server.desk, KEY)
         service.of_book(server.folder, server.radius)
         try:
             service.start()

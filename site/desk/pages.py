@@ -45,7 +45,7 @@ def wrong(visit, account, total):
 
 
 def asked(visit, account, total, number):
-    """The question before a sale. A name that the book does not know is shown with those like it."""
+    """The question before a sale. A name that the book does not know is shown with similar ones."""
     known, _ = accounts.known()
     balance = known.get(account.encode("utf-8", "surrogateescape"))
     near = [] if balance is not None else accounts.like(account, known)
@@ -87,8 +87,9 @@ def take_back(visit):
         return sale(visit, number, visit.text(
             "The book is away. Nothing was taken back: try again in a minute."), 503)
     if said == DIFFERS:
-        return sale(visit, number, visit.text("The book has another sale by this number. Nothing was "
-                                              "taken back: call the operator."), 409)
+        return sale(visit, number, visit.text(
+            "The book has another sale by this number. Nothing was taken back: call the operator."),
+            409)
     return web.lead(f"/desk/sale/{number}")
 
 

@@ -42,8 +42,8 @@ def found(db, number, who, role):
                       "WHERE number = ? AND kind IN ('sale', 'back') "
                       "ORDER BY answer IN ('new', 'repeat') DESC, begun",
                       (number,)).fetchall()
-    sale = next((it for it in rows if it["kind"] == SALE and (it["who"] == who or role == OPERATOR)),
-                None)
+    own = [it for it in rows if it["kind"] == SALE and (it["who"] == who or role == OPERATOR)]
+    sale = own[0] if own else None
     back = next((it for it in rows if sale and it["kind"] == BACK and it["sum"] == -sale["sum"]
                  and it["account"] == sale["account"]), None)
     return sale, back
@@ -55,12 +55,12 @@ def may_take_back(sale, back, role):
 
 
 def take_back(db, book, sale, who):
-    """Takes back a sale: what the book said. It is asked before whether it has the sale: one that it
-    lost, being an older copy, it has again by that.
+    """Takes back a sale: what the book said. It is asked before whether it has the sale: one that
+    it lost, being an older copy, it has again by that.
     """
     if not book.corrects():
-        raise Failed(f"no sale is taken back: {corrections.PLANS} has no plan {corrections.CLASS} of "
-                     f"block 1 and unit 1, or {places.SECRET} no secret")
+        raise Failed(f"no sale is taken back: {corrections.PLANS} has no plan {corrections.CLASS} "
+                     f"of block 1 and unit 1, or {places.SECRET} no secret")
     known = Act(*(sale[it] for it in Act._fields))
     if (said := acts.ask(book, known)) not in TAKEN:
         return said
@@ -79,7 +79,7 @@ def waiting(db, who):
 
 
 def end_shift(db, who):
-    """Ends a shift: whether there was something in it. What is counted now no other shift counts."""
+    """Ends a shift: whether there was something in it. What it counts no other shift counts."""
     with db:
         shift = db.execute("INSERT INTO shift (who, ended) VALUES (?, ?)",
                            (who, int(time.time()))).lastrowid

@@ -1,10 +1,10 @@
 """Sells to an account in the site's money, or credits the file of vouchers on standard input.
 
-Such a file has the header voucher,account,sum, as `radacctd import` reads it: sums in whole units of
-the book. What has no answer is sent again each minute, and giving it again credits nothing twice.
+Such a file has the header voucher,account,sum, as `radacctd import` reads it: sums in whole units
+of the book. What has no answer is sent again each minute. Given again, nothing is credited twice.
 
-The status is 0 if all was sold, now or before, 1 if something was refused, and 3 if the book did not
-answer yet.
+The status is 0 if all was sold, now or before, 1 if something was refused, and 3 if the book did
+not answer yet.
 """
 
 import collections
@@ -27,8 +27,8 @@ class Waiting(Failed):
 def arguments(it):
     it.add_argument("account", nargs="?", help="who gets it")
     it.add_argument("sum", nargs="?", help="how much, in the site's money, as 5.00")
-    it.add_argument("--again", metavar="DAY", help="send again what was sold since a day, to a book "
-                    "that was put back from a copy, as 2026-12-31")
+    it.add_argument("--again", metavar="DAY", help="send again what was sold since a day, as "
+                    "2026-12-31, to a book that was put back from a copy")
     it.add_argument("--unpaid", action="store_true", help="nothing was paid: it counts in no total")
 
 
@@ -70,7 +70,7 @@ def sell(db, book, found):
         said = acts.send(db, book, it)
         counts[said] += 1
         if said in (desk.DIFFERS, desk.LIMIT):
-            refused.append(f"{it.number}: {said}")
+            refused.append(f"{it.number}, {names.readable(it.account)}: {said}")
         if said in (desk.AWAY, desk.NO_KEY):
             break
     print(f"added {counts[desk.NEW]}, repeated {counts[desk.REPEAT]}, refused {len(refused)}")

@@ -11,7 +11,7 @@ from unittest import mock
 from radacctd_site.core import Failed, acts, codes, corrections, desk, people, places, store
 from radacctd_site.core.features import CASHIER, OPERATOR
 from radacctd_site.core.test_client import PASSWORD, Browser, Site
-from radacctd_site.desk import sales, sell
+from radacctd_site.desk import allow, sales, sell
 
 
 class Desk(Site):
@@ -68,8 +68,8 @@ class Selling(Desk):
         self.assertNotIn("is new", self.cashier.text)
 
     def test_what_is_wrong_is_said_and_nothing_is_sent(self):
-        for account, total in (("al", "0"), ("al", "5.001"), ("al", "1e3"), ("", "5"), ("a%{b", "5"),
-                               ("'al", "5"), ("\u200bal", "5")):
+        for account, total in (("al", "0"), ("al", "5.001"), ("al", "1e3"), ("", "5"),
+                               ("a%{b", "5"), ("'al", "5"), ("\u200bal", "5")):
             self.assertEqual(self.cashier.post("/desk/", account=account, sum=total), 422)
         for number in ("", "V-1", "S-1", "W-" + codes.new(), "LAPSE-1", "S-" + codes.new().lower()):
             self.assertEqual(self.cashier.post("/desk/", account="al", sum="5", number=number,
@@ -235,6 +235,13 @@ class Shifts(Desk):
         self.cashier.post("/desk/shift/", sure="yes")
         self.assertEqual([it["net"] for it in sales.shifts(self.db, CASHIER, CASHIER)], [500, 100])
 
+    def test_what_another_feature_sold_counts_too(self):
+        acts.do(self.db, self.book, acts.Act("P-1", "al", 900, "package", CASHIER))
+        acts.do(self.db, self.book, acts.Act("W-1", "al", 100, "withdraw", CASHIER, 0))
+        self.cashier.get("/desk/shift/")
+        self.assertIn("1 sales: 9.00\u00a0EUR sold", self.cashier.text)
+        self.assertNotIn("/desk/sale/P-1", self.cashier.text)
+
     def test_two_ends_at_once_count_each_sale_once(self):
         def one():
             with store.opened() as db:
@@ -307,8 +314,8 @@ class Ledger(Desk):
         number = self.sell("=1+1")
         self.back(number)
         self.sell("bo", "2", self.operator)
-        self.assertEqual([(it["account"], it["paid"], it["state"]) for it in self.rows(self.cashier)],
-                         [("'=1+1", "5.00", "sold"), ("'=1+1", "-5.00", "sold")])
+        found = [(it["account"], it["paid"], it["state"]) for it in self.rows(self.cashier)]
+        self.assertEqual(found, [("'=1+1", "5.00", "sold"), ("'=1+1", "-5.00", "sold")])
         self.assertEqual(len(self.rows(self.operator)), 3)
         for days in ("", "?first=x&last=y"):
             self.assertEqual(self.cashier.get(f"/desk/sales.csv{days}"), 422)
@@ -345,7 +352,7 @@ class Command(Desk):
             if wanted:
                 self.assertIn(wanted, self.credit(text))
             else:
-                self.assertRaisesRegex(Failed, "V-1: differs", self.credit, text)
+                self.assertRaisesRegex(Failed, "V-1, bo: differs", self.credit, text)
         self.assertEqual(self.book.credits, {"V-1": ("al", 500), "V-2": ("m%C3%BCller", 700)})
 
     def test_of_a_wrong_file_nothing_is_sold(self):
@@ -386,3 +393,43 @@ class Command(Desk):
         self.assertIn("5.00 EUR", self.run_it("balance", "müller"))
         with self.assertRaisesRegex(Failed, "Names like it: müller"):
             self.run_it("balance", "muller")
+
+
+class Allowances(Desk):
+    LIST = "account,sum\nal,5.00\n%C3%BC 1,6.00\nbo,7\n"
+
+    def allow(self, text=LIST, *more, month="2026-12"):
+        with open(f"{self.folder}/list.csv", "w", encoding="utf-8") as file:
+            file.write(text)
+        return self.run_it("allow", file.name, "--month", month, *more)
+
+    def test_once_a_month(self):
+        once = {b"al": 500, b"bo": 700, "ü 1".encode(): 600}
+        for _ in range(3):
+            self.allow()
+            self.assertEqual(self.book.balances(), once)
+        self.allow(month="2027-01")
+        self.assertEqual(self.book.balances(), {it: 2 * total for it, total in once.items()})
+        self.assertEqual(self.run_it("sales"), "")
+
+    def test_one_sum_for_all_and_a_look_before(self):
+        said = self.allow("account\nal\nbo\n", "--sum", "2", "--dry-run")
+        self.assertIn("2 accounts, 4.00 EUR", said)
+        self.assertEqual(self.book.asked, [])
+
+    def test_another_sum_is_refused(self):
+        self.allow()
+        self.assertRaisesRegex(Failed, "al: differs", self.allow, "account,sum\nal,9.00\n")
+        self.assertEqual(self.book.balances()[b"al"], 500)
+
+    def test_of_a_wrong_list_nothing_is_sent(self):
+        for text in ("account,sum\nal,5\nal,5\n", "account,sum\n'x,5\n", "account\nal\n", "",
+                     "account,sum\nal,x\n", "account,sum\nal,5,6\n", "account,sum\n1.5E+11,5\n",
+                     'account,sum\n"' + "x" * 200_000, "account\ra\rb"):
+            self.assertRaises(Failed, self.allow, text)
+        self.assertRaises(Failed, self.allow, month="2026-13")
+        self.assertEqual(self.book.asked, [])
+
+    def test_numbers_are_numbers(self):
+        for account in ("al", "%C3%A9" * 126):
+            self.assertRegex(allow.number_of("2026-12", account), f"^(?:{desk.NUMBER.pattern})$")

@@ -9,8 +9,8 @@ from radacctd_site.operator import sessions
 
 # How many days are shown, and how many lines of a list.
 DAYS, LINES = 30, 200
-# A column of a plot: its name, how high it is above and below the line, what is shown of it, and its
-# line of the table.
+# A column of a plot: its name, how high it is above and below the line, what is shown of it, and
+# its line of the table.
 Column = collections.namedtuple("Column", "name above below text cells")
 
 

@@ -6,20 +6,20 @@ import time
 from radacctd_site.core import accounts, names
 from radacctd_site.core.corrections import CLIENT
 
-# Of so many accounts the desk is asked, so many at once; in seconds, how long a session that is on may
-# be silent.
+# Of so many accounts the desk is asked, so many at once; in seconds, how long a session that is on
+# may be silent.
 MOST, AT_ONCE, HEARD = 5000, 8, 900
 HOURS, HOUR = 24, 3600
 
 
 def is_use(session):
-    """Whether it is a guest's own: no correction, and no line of sessions that were carried forward."""
+    """Whether it is a guest's own: no correction, no line of sessions that were carried forward."""
     return session["client"] != CLIENT and not session["client"].startswith("(")
 
 
 def of_all(book, known):
-    """The sessions of accounts, the last heard of first, each with its account; None if the desk does
-    not tell them.
+    """The sessions of accounts, the last heard of first, each with its account; None if the desk
+    does not tell them.
     """
     first, *rest = sorted(known)[:MOST] or [None]
     found = [accounts.told(book, first, accounts.SESSIONS) if first else []]

@@ -19,7 +19,7 @@ def main(words):
     octets = names.octets_of(words.account)
     known, written = accounts.balances()
     if octets not in known:
-        raise Failed(f"the book has no account {words.account}: radacctl balance names those like it")
+        raise Failed(f"the book has no account {words.account}: radacctl balance says similar ones")
     print(f"balance {site.shown(known[octets])} ({moment(written)})")
     with store.opened() as db:
         for it in acts.of_account(db, names.for_desk(octets)):

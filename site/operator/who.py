@@ -17,7 +17,8 @@ def main(words):
     known, _ = accounts.balances()
     found = sessions.of_all(book, known)
     if found is None:
-        raise Failed("the book tells no sessions to this key: is radacctd up, and of this version?")
+        raise Failed(f"the book tells no sessions: is radacctd up, and has the key of {places.KEY} "
+                     "`accounts = true`?")
     for it in sessions.on(found, time.time()):
         since = time.strftime("%Y-%m-%d %H:%M", time.localtime(it["first"]))
         print(f"{it['account']:24} {it['calling']:18} {it['client']:20} since {since}, "

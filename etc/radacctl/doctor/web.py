@@ -98,7 +98,7 @@ def settings():
 def answers(text):
     """The service's socket is there, and each kind of page is answered through nginx."""
     if not os.path.exists(SOCKET):
-        yield Fault("pages-silent", f"{SOCKET} is not there", "systemctl start radacctd-site.socket")
+        yield Fault("pages-silent", f"there is no {SOCKET}", "systemctl start radacctd-site.socket")
     elif look.is_active("nginx.service"):
         for path, status in (("/login/", 200), ("/desk/", 303), ("/bootstrap.min.css", 200)):
             found = asked(text, path)

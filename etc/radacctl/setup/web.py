@@ -1,4 +1,4 @@
-"""The steps to sales and pages: the store, the pages' service, persons, nginx with its certificate."""
+"""The steps to sales and pages: the store, the pages' service, persons, nginx, its certificate."""
 
 import json
 import os
@@ -20,7 +20,7 @@ TEST = ("nginx", "-t")
 
 
 def store(config):
-    """What sells, also without pages: its user, who reads balances, its folder, its key, its minute."""
+    """What sells, also without pages: its user, who reads balances, folder, key, and timer."""
     yield user(places.USER)
     yield Folder(places.USUAL, 0o711, places.USER, places.USER)
     yield File(site.SITE_KEY, config.keys["site"] + "\n", 0o600)
