@@ -159,8 +159,6 @@ class Cards(Folder):
                              [wanted, wanted])
 
 
-
-
 class Program(unittest.TestCase):
     TOOL = os.path.join(ROOT, "etc", "tools", "radacctl")
 

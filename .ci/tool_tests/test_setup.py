@@ -187,6 +187,10 @@ class Site(Folder):
             said = self.lost(is_new_wanted=is_new_wanted, is_away=True)
             self.assertEqual(said, "the book of radacctd.service is not at its name")
 
+    def test_what_debian_has_is_named(self):
+        one = self.wanted(host="a.example.org", name="x", currency="EUR", server="10.0.0.5")
+        self.assertIn("gunicorn", setup.packages_of(one))
+
     def test_a_clock_that_was_never_set_is_told(self):
         given = setup.parser().parse_args(["site.toml"])
         with mock.patch("time.time", lambda: 86400.0), mock.patch.object(alone, "Config") as config:
@@ -253,7 +257,6 @@ class Certificates(Folder):
         self.assertEqual([it.split("~")[0] for it in self.kept()], ["own.key", "own.pem"])
         self.assertEqual(self.read(os.path.join(self.folder, self.kept()[1])),
                          b"a bought certificate\n")
-
 
     def test_the_name_of_a_host_may_be_longer_than_that_of_a_subject(self):
         for host in ("wifi." + "a" * 60 + ".example.org", "a.example.org"):
