@@ -102,9 +102,10 @@ def of_days(db, first, last, who=None):
                       "ORDER BY moment, rowid", (second_of(first), end, who, who)).fetchall()
 
 
-def waiting(db):
-    """How many the book has not answered yet."""
-    return db.execute("SELECT count(*) FROM act WHERE answer IS NULL").fetchone()[0]
+def waiting(db, before=None):
+    """How many the book has not answered yet, of those begun before a moment, or of all."""
+    return db.execute("SELECT count(*) FROM act WHERE answer IS NULL AND (? IS NULL OR begun < ?)",
+                      (before, before)).fetchone()[0]
 
 
 def sums(rows):

@@ -1,6 +1,13 @@
-"""Sends again what the book has not answered: radacctd-minute.timer starts it each minute."""
+"""Sends again what the book has not answered: radacctd-minute.timer starts it each minute.
 
-from radacctd_site.core import acts, features, places, store
+If something has no answer for ten minutes the status is 1: so the doctor names the unit.
+"""
+
+import time
+
+from radacctd_site.core import Failed, acts, features, places, store
+
+LONGEST = 600
 
 
 def arguments(it):
@@ -15,6 +22,10 @@ def main(words):
         done = acts.again(db, book)
         for does in features.each_minute():
             does(db, book)
+        late = acts.waiting(db, time.time() - LONGEST)
     if done:
         print(f"answered now: {done}")
+    if late:
+        raise Failed(f"{late} acts have no answer for ten minutes: is radacctd up, does it take the "
+                     f"key of {places.KEY} and the secret of {places.SECRET}?")
     return 0

@@ -36,6 +36,17 @@ class Acts(Site):
         self.assertEqual([acts.again(self.db, self.book) for _ in range(2)], [1, 0])
         self.assertEqual(self.book.credits, {"V-1": ("al", 500)})
 
+    def test_what_waits_for_long_is_said(self):
+        self.book.is_away = True
+        acts.do(self.db, self.book, ACT)
+        self.assertEqual(self.run_it("minute"), "")
+        with self.db:
+            self.db.execute("UPDATE act SET begun = begun - 601")
+        with self.assertRaisesRegex(Failed, "1 acts have no answer"):
+            self.run_it("minute")
+        self.book.is_away = False
+        self.assertEqual(self.run_it("minute"), "answered now: 1\n")
+
     def test_what_the_desk_does_not_understand_keeps_nothing_back(self):
         credit, other = self.book.credit, ACT._replace(number="V-2")
         self.book.credit = lambda *it: desk.STRANGE if it[2] == "V-1" else desk.AWAY
