@@ -28,15 +28,22 @@ class Proof:
         self.plan = next(it for it in answers.plans if it["class"] == "default")
         # Nobody of ours is in a site's own database.
         self.has_login = not answers.sql
+        # A sale is in one book, and a report in both: one of them would have a debt.
+        self.sells = self.plan["unit"] and not answers.pair
         self.book = kind.Book()
 
     def do(self):
         left, stamp = self.asked()
-        if left:
-            print(f"{TEST_NAME} has something of an earlier run: a report uses it up")
-            self.report(stamp, left)
-        if self.plan["unit"]:
+        if self.sells:
+            if left:
+                print(f"{TEST_NAME} has something of an earlier run: a report uses it up")
+                self.report(stamp, left)
             self.use_up()
+        elif self.plan["unit"]:
+            if self.has_login:
+                self.login("Access-Reject")
+            self.report(None, 1000)
+            print("a login without money is refused, and a report without a login answered")
         else:
             self.report(self.stamp(), 1000)
             print("a login is accepted, and its report answered")
@@ -109,9 +116,11 @@ class Proof:
     def report(self, stamp, octets):
         """Sends a Stop of so many octets, which must be answered: then the book has it."""
         name = {"out": "Output"}.get(self.plan["count"], "Input")
-        stamp = stamp if stamp.startswith("0x") else f'"{stamp}"'
+        logged_in = []
+        if stamp:
+            logged_in = [f"Class = {stamp}" if stamp.startswith("0x") else f'Class = "{stamp}"']
         said = self.client("reports", "acct", [
-            "Acct-Status-Type = Stop", f'User-Name = "{TEST_NAME}"', f"Class = {stamp}",
+            "Acct-Status-Type = Stop", f'User-Name = "{TEST_NAME}"', *logged_in,
             f'Acct-Session-Id = "{secrets.token_hex(8)}"',
             f"Acct-{name}-Octets = {octets % 2**32}", f"Acct-{name}-Gigawords = {octets >> 32}"])
         if "Received Accounting-Response" not in said:

@@ -81,8 +81,9 @@ def units(answers):
 def tries(answers):
     """What shows at the end that it works."""
     if answers.has_front:
-        yield Step(f"try a sale, a login and reports of the account {clients.TEST_NAME}, which use "
-                   "the sale up", lambda: False, proof.Proof(answers).do)
+        what = "a login and a report" if answers.pair else "a sale, a login and reports that use it up"
+        yield Step(f"try {what}: the account {clients.TEST_NAME}", lambda: False,
+                   proof.Proof(answers).do)
 
 
 def whole():
