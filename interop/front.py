@@ -15,7 +15,6 @@ import books
 
 FOLDER = os.path.dirname(os.path.abspath(__file__))
 ROOT = os.path.dirname(FOLDER)
-PLANS_IN_FORCE = os.path.join(ROOT, "etc", "plans-in-force")
 MEBIBYTE = 1 << 20
 PATIENCE = 30
 SECRET = "testing-123"
@@ -122,13 +121,7 @@ class Book(KILL.Server):
             for account in ACCOUNTS
         )
 
-    def put_plans(self, folder=None, prefix=""):
-        """Writes the plans in force, as the unit does before it starts the server."""
-        words = [PLANS_IN_FORCE, self.book, folder or self.folder, prefix]
-        subprocess.run(words, check=True)
-
     def start(self, *more):
-        self.put_plans()
         ports = ["--radius-port", str(self.radius), "--desk-port", str(self.desk)]
         words = [KILL.PROGRAM, "serve", "--config", self.config, "--db", self.book, *ports]
         words += ["--balances", self.balances, "--balances-every", "1", *more]

@@ -164,7 +164,6 @@ logins = true
         return done.returncode == 0
 
     def start(self, *_):
-        self.put_plans()
         words = self.words("serve", "--radius-port", str(self.radius), "--quiet")
         words += ["--desk-port", str(self.desk), "--balances", self.balances]
         words += ["--balances-every", "1", *self.more]

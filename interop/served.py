@@ -106,6 +106,11 @@ class Server:
         done = subprocess.run(self.words("init"), capture_output=True, text=True)
         check("and makes none over it", (done.returncode, done.stderr), (3, "db: NotABook\n"))
 
+    def list_plans(self, folder):
+        """Writes the plans in force where the pages read them, as the unit does before a start."""
+        with open(os.path.join(folder, "plans.csv"), "w", encoding="ascii") as file:
+            subprocess.run([*self.words("plans"), "--list"], stdout=file, check=True)
+
     def export(self, what):
         return subprocess.run(
             self.words("export") + [what], capture_output=True, text=True

@@ -83,7 +83,7 @@ KEPT = {
         "A key that is made or ended between copy and rename is lost, or comes back",
         "its sessions are priced by `default` until then",
         "or the next start fails",
-        "If you run the server without the unit, give `plans-in-force` yourself",
+        "If you run the server without the unit, write that file yourself",
     ),
     "docs/SIZING.md": (
         "nothing of what was written; other octets of the sector stay",

@@ -13,16 +13,15 @@ network. MAKERS has each name with the function that gives the lines.
 import os
 import re
 
-from claims_lib import configured, contracts, doctor, faults, frames, history
+from claims_lib import configured, contracts, doctor, failures, faults, frames, history
 from claims_lib import lines, made_tables, notions, printed, signatures, statuses, tables, typed
 from claims_lib import unopened, variants
 from claims_lib.tree import ROOT, text_of
 
 PART = re.compile(r"^<!-- made: ([^\n]+?) -->\n(.*?)^<!-- end -->$", re.M | re.S)
 MAKERS = {}
-for source in (configured, contracts, doctor, faults, frames, history, lines, made_tables,
-               notions, printed, signatures, statuses, tables, typed, unopened,
-               variants):
+for source in (configured, contracts, doctor, failures, faults, frames, history, lines,
+               made_tables, notions, printed, signatures, statuses, tables, typed, unopened, variants):
     MAKERS.update(source.MAKERS)
 HOW = "make it again: .ci/claims --write"
 

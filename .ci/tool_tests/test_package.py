@@ -105,7 +105,7 @@ class Purge(unittest.TestCase):
             script = text("etc", "package", "postrm").replace("/var/lib", folder)
             balances = f"{folder}/radacctd-balances"
             os.mkdir(balances)
-            for name in ("balances.csv", "balances.csv.12new", "plans.csv", "plans.json"):
+            for name in ("balances.csv", "balances.csv.12new", "plans.csv"):
                 with open(f"{balances}/{name}", "w", encoding="ascii"):
                     pass
             script = script.replace("[ -d /run/systemd/system ]", "false")

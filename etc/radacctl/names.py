@@ -54,10 +54,3 @@ def are_written(moment, path):
     # Those of a time to come were written before it, by a clock that was ahead.
     return program.until(lambda: os.path.exists(path)
                          and moment <= os.stat(path).st_mtime <= time.time(), WRITTEN)
-
-
-def csv_of(header, rows):
-    """The text of a CSV file for programs."""
-    text = io.StringIO(newline="")
-    csv.writer(text, lineterminator="\n").writerows([header, *rows])
-    return text.getvalue()

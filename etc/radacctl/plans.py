@@ -1,7 +1,5 @@
 """Plans: block, unit and count by the octets of a class, as books and files have them."""
 
-import json
-
 from radacctl import files, names, site
 
 # What is counted, by the book's numbers.
@@ -20,14 +18,6 @@ def of_book(path):
     it is served. OSError says why it cannot be read.
     """
     return of_rows(files.rows(path, QUERY, is_still=True))
-
-
-def texts_of(found):
-    """The files of plans in force, by their names, of plans by the octets of their classes."""
-    rows = ((names.shown(name), *plan) for name, plan in found.items())
-    named = {name.decode(): dict(zip(HEADER[1:], plan)) for name, plan in found.items()}
-    return {"plans.csv": names.csv_of(HEADER, rows),
-            "plans.json": json.dumps(named, indent=2, ensure_ascii=False) + "\n"}
 
 
 def rows_of(path):

@@ -15,6 +15,8 @@ from radacctd_site.core import Failed, names
 
 BALANCES = os.environ.get("RADACCTD_BALANCES", "/var/lib/radacctd-balances/balances.csv")
 HEADER = ["account", "balance", "overrun"]
+# The plans in force, which the service writes before radacctd starts.
+PLANS = os.environ.get("RADACCTD_PLANS", "/var/lib/radacctd-balances/plans.csv")
 SESSIONS, TOPUPS = "sessions", "topups"
 # How many names are shown of those that are like another one, and among how many they are sought.
 LIKE, SOUGHT = 20, 5000
@@ -39,6 +41,16 @@ def known():
         return balances()
     except Failed:
         return {}, None
+
+
+def plans():
+    """The plans in force by their classes, or none if nobody knows them."""
+    try:
+        with open(PLANS, encoding="ascii", newline="") as file:
+            return {it["class"]: {"block": int(it["block"]), "unit": int(it["unit"]),
+                                  "count": it["count"]} for it in csv.DictReader(file)}
+    except (OSError, ValueError, LookupError, TypeError, csv.Error):
+        return {}
 
 
 def told(book, account, question):

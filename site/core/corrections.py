@@ -7,14 +7,14 @@ is the number of what is taken back: so the same report again takes nothing more
 import contextlib
 import hashlib
 import hmac
-import json
 import os
 import re
 import socket
 import time
 
+from radacctd_site.core import accounts
+
 CLIENT, CLASS, SOURCE = "books", "debit", "127.0.0.9"
-PLANS = os.environ.get("RADACCTD_PLANS", "/var/lib/radacctd-balances/plans.json")
 WANTED = {"block": 1, "unit": 1, "count": "both"}
 DEFAULTS = os.environ.get("RADACCTD_DEFAULTS", "/etc/default/radacctd")
 USUAL = "127.0.0.1", 1813
@@ -35,11 +35,7 @@ def where():
 
 def has_plan():
     """Whether the book has the plan: another one would price the report otherwise, for ever."""
-    try:
-        with open(PLANS, encoding="utf-8") as file:
-            return json.load(file).get(CLASS) == WANTED
-    except (OSError, ValueError, AttributeError):
-        return False
+    return accounts.plans().get(CLASS) == WANTED
 
 
 def request(number, account, total, secret):

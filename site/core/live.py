@@ -75,7 +75,7 @@ class Service:
         """Where the book writes balances and plans, and the port at which it hears reports."""
         self.write("defaults", f"RADACCTD_RADIUS_PORT={port}\n")
         self.env |= {"RADACCTD_BALANCES": f"{folder}/balances.csv",
-                     "RADACCTD_PLANS": f"{folder}/plans.json",
+                     "RADACCTD_PLANS": f"{folder}/plans.csv",
                      "RADACCTD_DEFAULTS": f"{self.folder}/defaults"}
 
     def settings(self, **more):

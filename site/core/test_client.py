@@ -93,11 +93,10 @@ class Site(unittest.TestCase):
                        "decimals": 2}, file)
         self.book = Book()
         self.balances = os.path.join(self.folder, "balances.csv")
-        plans = os.path.join(self.folder, "plans.json")
-        with open(plans, "w", encoding="utf-8") as file:
-            json.dump({"debit": corrections.WANTED}, file)
+        self.plans = os.path.join(self.folder, "plans.csv")
+        self.list_plans({"debit": corrections.WANTED})
         for where, name, value in ((accounts, "BALANCES", self.balances),
-                                   (corrections, "PLANS", plans), (people, "COST", 2)):
+                                   (accounts, "PLANS", self.plans), (people, "COST", 2)):
             self.enterContext(mock.patch.object(where, name, value))
         for name, value in (("DATABASE", os.path.join(self.folder, "site.db")),
                             ("FOLDER", self.folder), ("SETTINGS", settings),
@@ -107,6 +106,13 @@ class Site(unittest.TestCase):
             self.addCleanup(patch.stop)
         self.db = self.enterContext(store.opened())
         self.app = web.made()
+
+    def list_plans(self, plans):
+        """The plans in force, as radacctd lists them."""
+        with open(self.plans, "w", encoding="ascii") as file:
+            print("class,block,unit,count", file=file)
+            for name, it in plans.items():
+                print(name, it["block"], it["unit"], it["count"], sep=",", file=file)
 
     def write_balances(self):
         """As the book does every few seconds."""

@@ -64,8 +64,7 @@ class Server(served.Server):
             file.write(MORE)
 
     def start(self, *more):
-        words = [os.path.join(ROOT, "etc", "plans-in-force"), self.book, self.folder]
-        subprocess.run(words, check=True)
+        self.list_plans(self.folder)
         super().start(1 << 62, ["--balances", f"{self.folder}/balances.csv",
                                 "--balances-every", "1"])
 

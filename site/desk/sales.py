@@ -9,7 +9,7 @@ import csv
 import io
 import time
 
-from radacctd_site.core import Failed, acts, codes, corrections, names, places
+from radacctd_site.core import Failed, accounts, acts, codes, corrections, names, places
 from radacctd_site.core.acts import SOLD, TAKEN, Act, state_of, sums
 from radacctd_site.core.features import OPERATOR
 
@@ -59,7 +59,7 @@ def take_back(db, book, sale, who):
     it lost, being an older copy, it has again by that.
     """
     if not book.corrects():
-        raise Failed(f"no sale is taken back: {corrections.PLANS} has no plan {corrections.CLASS} "
+        raise Failed(f"no sale is taken back: {accounts.PLANS} has no plan {corrections.CLASS} "
                      f"of block 1 and unit 1, or {places.SECRET} no secret")
     known = Act(*(sale[it] for it in Act._fields))
     if (said := acts.ask(book, known)) not in TAKEN:

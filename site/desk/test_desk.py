@@ -8,7 +8,7 @@ import sqlite3
 import threading
 from unittest import mock
 
-from radacctd_site.core import Failed, acts, codes, corrections, desk, people, places, store
+from radacctd_site.core import Failed, accounts, acts, codes, desk, people, places, store
 from radacctd_site.core.features import CASHIER, OPERATOR
 from radacctd_site.core.test_client import PASSWORD, Browser, Site
 from radacctd_site.desk import allow, sales, sell
@@ -178,7 +178,7 @@ class TakingBack(Desk):
 
     def test_without_its_plan_nothing_is_taken_back(self):
         number = self.sell()
-        with mock.patch.object(corrections, "PLANS", "/nonexistent"), \
+        with mock.patch.object(accounts, "PLANS", "/nonexistent"), \
                 contextlib.redirect_stderr(io.StringIO()):
             self.assertEqual(self.back(number), 503)
         self.assertEqual(self.book.debits, {})

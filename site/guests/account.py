@@ -1,13 +1,9 @@
 """What a guest sees of an account, from what the book's desk answers to the key of a card."""
 
 import collections
-import json
-import os
 
 from radacctd_site.core import desk, names, places
 
-# The file of the plans in force, which radacctd writes as it starts.
-PLANS = os.environ.get("RADACCTD_PLANS", "/var/lib/radacctd-balances/plans.json")
 # What the book's desk answers, and what a guest is told of an answer that is none.
 QUESTIONS = ("balance", "sessions", "topups")
 UNKNOWN, OTHER, AWAY = "unknown", "other", "away"
@@ -52,15 +48,6 @@ def session_of(it):
     if it["client"].startswith("("):
         return Session(None, "earlier", None, charged)
     return Session(it["last"], "open" if it["state"] == "open" else "ended", it["total"], charged)
-
-
-def plans():
-    """The plans in force by their names, or none if nobody knows them."""
-    try:
-        with open(PLANS, encoding="utf-8") as file:
-            return json.load(file)
-    except (OSError, ValueError):
-        return {}
 
 
 def plan_of(sessions, known):

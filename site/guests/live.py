@@ -8,7 +8,6 @@ if all is as it should be, else with 1.
 """
 
 import os
-import subprocess
 import sys
 import tempfile
 
@@ -77,11 +76,10 @@ def main():
         os.mkdir(f"{folder}/book")
         server = served.Server(f"{folder}/book")
         server.init()
-        words = [os.path.join(ROOT, "etc", "plans-in-force"), server.book, folder]
-        subprocess.run(words, check=True)
+        server.list_plans(folder)
         server.start(1 << 62)
         service = Service(f"{folder}/site", server.desk, CASHIER)
-        service.env["RADACCTD_PLANS"] = f"{folder}/plans.json"
+        service.env["RADACCTD_PLANS"] = f"{folder}/plans.csv"
         try:
             service.start()
             refuses(server, service, looks(server, service))

@@ -1,6 +1,6 @@
 """The guests' page: a key of a card in, and what is left, used and bought of its account out."""
 
-from radacctd_site.core import desk, web
+from radacctd_site.core import accounts, desk, web
 from radacctd_site.guests import account
 
 # The key of the card, until the browser is closed.
@@ -58,7 +58,7 @@ def reason(visit, why):
 
 def shown(visit, found):
     """What the page has: sums in the site's money, data in GB."""
-    it, known = account.seen(found), account.plans()
+    it, known = account.seen(found), accounts.plans()
     plan = account.plan_of(found["sessions"], known)
     octets = account.buys(it.balance, plan) if plan else None
     return {"seen": it, "plan": plan, "known": known,

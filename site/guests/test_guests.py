@@ -1,6 +1,5 @@
 """What a guest sees: keys that are none, what is left, sessions, sums, a desk that is away."""
 
-import json
 import os
 from unittest import mock
 
@@ -32,13 +31,8 @@ class Guests(Site):
             "topups": {"account": "room%C3%A4 1", "topups": [{"sum": 500, "voucher": "D1-A", "when": 1000},
                                                   {"sum": 300, "voucher": "W-B", "when": 1500}]}}
         self.status = {KEY: 200}
-        plans = os.path.join(self.folder, "plans.json")
-        with open(plans, "w", encoding="utf-8") as file:
-            json.dump(PLANS, file)
-        for where, name, value in ((desk, "read", self.read), (account, "PLANS", plans)):
-            patch = mock.patch.object(where, name, value)
-            patch.start()
-            self.addCleanup(patch.stop)
+        self.list_plans(PLANS)
+        self.enterContext(mock.patch.object(desk, "read", self.read))
 
     def read(self, _, path, key):
         status = self.status.get(key, 401)
@@ -117,10 +111,9 @@ class Guests(Site):
         self.assertEqual(account.buys(-5, {"unit": 5, "block": 10}), 0)
         self.assertIsNone(account.buys(19, {"unit": 0, "block": 10}))
         self.found["sessions"]["sessions"] = [session(1, **{"class": "free"})]
-        with open(account.PLANS, "w", encoding="utf-8") as file:
-            json.dump({"free": {"unit": 0, "block": 1, "count": "both"}}, file)
+        self.list_plans({"free": {"unit": 0, "block": 1, "count": "both"}})
         self.assertIn("Data costs nothing", self.guest().text)
-        os.remove(account.PLANS)
+        os.remove(self.plans)
         self.assertIn("6.50\u00a0EUR left", self.guest().text)
 
     def test_how_much_is_left_of_what_was_bought(self):

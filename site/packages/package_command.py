@@ -5,9 +5,8 @@ change is for each login of the package, from its next session. The sum is what 
 what the book credits to the login's account; by the plan of radacctd it is used up.
 """
 
-import json
 
-from radacctd_site.core import Failed, cli, corrections, money, names, places, store
+from radacctd_site.core import Failed, accounts, cli, money, names, places, store
 from radacctd_site.packages import logins, packages, users
 
 # Each option of `put`: what reads its text, what `no` makes of it, and what it is.
@@ -38,12 +37,10 @@ def arguments(it):
 
 def need_plan(name):
     """Ends unless radacctd has a plan: a session of another name would cost what `default` does."""
-    try:
-        with open(corrections.PLANS, encoding="utf-8") as file:
-            known = json.load(file)
-    except (OSError, ValueError):
-        return print(f"without {corrections.PLANS} nobody knows whether there is a plan {name}")
-    if names.shown(name.encode()) not in known:
+    known = accounts.plans()
+    if not known:
+        print(f"without {accounts.PLANS} nobody knows whether there is a plan {name}")
+    elif names.shown(name.encode()) not in known:
         raise Failed(f"radacctd has no plan {name}: {', '.join(known)}")
 
 

@@ -43,8 +43,7 @@ class Packages(Site):
         self.addCleanup(self.users.close)
         self.users.executescript(TABLES)
         self.enterContext(mock.patch.object(logins, "key", lambda: KEY))
-        with open(corrections.PLANS, "w", encoding="utf-8") as file:
-            file.write('{"gold": {}, "free": {}}')
+        self.list_plans({"gold": corrections.WANTED, "free": corrections.WANTED})
         self.put("week", "--plan", "gold", "--sum", "9.00", "--devices", "2", "--valid", "7d")
         self.put("open", "--plan", "free", "--speed", "2M/1M")
 
@@ -109,8 +108,7 @@ class Terms(Packages):
         self.assertEqual(self.rows("radgroupcheck") | self.rows("radgroupreply"), before)
 
     def test_a_plan_is_one_of_radacctds(self):
-        with open(corrections.PLANS, "w", encoding="utf-8") as file:
-            file.write('{"default": {}, "g%C3%A4ste": {}}')
+        self.list_plans({"default": corrections.WANTED, "g%C3%A4ste": corrections.WANTED})
         with self.assertRaisesRegex(Failed, "no plan glod: default"):
             self.put("week", "--plan", "glod")
         self.put("week", "--plan", "gäste")

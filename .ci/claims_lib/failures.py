@@ -1,0 +1,74 @@
+"""Each failure that a body of the product names, of which docs/PROOFS.md has a table: a clause that
+allows a failure at any size allows a body that always fails. What a pattern compares is not named.
+"""
+
+import re
+
+from claims_lib.tree import FOR_TESTS, text_of, without_comments
+
+WORD = r"(?:Unavailable|NoMemory|Memory|AllocError|CannotRead|Mute|Fault|OutOfMemory|Trouble)\b"
+# One more name would hide a failure.
+RENAMED = re.compile(rf"\b{WORD} as (?!OutOfMemory|Trouble)(\w+)"
+                     rf"|^ *(?:pub(?:\(\w+\))? )?(?:type|const|static) (\w+)\b[^;]*= [\w:]*\b{WORD}", re.M)
+HEAD = re.compile(r"^( *)(?:pub(?:\([a-z]+\))? )?(?:const )?fn (\w+)", re.M)
+MENTION = re.compile(rf"(?:\w+\()*(?:\w+::)*\b{WORD}(?:::\w+)*")
+# What follows the mention in a pattern, and what is before it in a type.
+PATTERN = re.compile(r"(?:\([^()]*\)|\{[^{}]*\})?\)* (?:\||=>|if )")
+OF_A_TYPE = re.compile(r"(?:-> |: |<|impl \w+ for )(?:Result<[^<>]*, )?$")
+# What is before it where a call's failure is passed on.
+PASSED_ON = re.compile(
+    r"(?:Err\((?:_|\w+|[\w:]+(?:\([^()]*\))?)\) => (?:\{ )?(?:return )?"
+    r"|let Ok\([^;{}]*\) = [^;{}]* else \{ (?:return )?"
+    r"|is_err\(\) \{ (?:let _ = [^;]*; )?(?:return )?|map_err\([^;]*)$")
+
+
+def bodies_of(text):
+    """Each function of a source, and its body."""
+    for head in HEAD.finditer(text):
+        begun = [it for it in (text.find(f"\n{head[1]}{{\n", head.end()), text.find(" {\n", head.end()))
+                 if it >= 0]
+        end = text.find(f"\n{head[1]}}}", min(begun)) if begun else -1
+        if begun and not re.search(r";\n", text[head.end() : min(begun)]):
+            yield head[2], re.sub(r"\s+", " ", text[min(begun) : end])
+
+
+def mentions_in(body):
+    """Of each failure that a body makes, whether it passes on what a call gave."""
+    for found in MENTION.finditer(body):
+        before = body[: found.start()]
+        if not PATTERN.match(body, found.end()) and not OF_A_TYPE.search(before):
+            yield bool(PASSED_ON.search(before))
+
+
+def sources(checker):
+    for path in sorted(checker.tree.files):
+        crate, _, rest = path.removeprefix("crates/").partition("/src/")
+        if rest.endswith(".rt") and path.startswith("crates/") and not FOR_TESTS.search(crate):
+            yield path, without_comments(text_of(path))
+
+
+def counted(text):
+    """How many failures each function makes by itself, and how many of a source are passed on."""
+    own, passed = {}, 0
+    for name, body in bodies_of(re.sub(r'"(?:[^"\\]|\\.)*"', '""', text)):
+        for is_passed in mentions_in(body):
+            # A conversion is asked by `?`, of what a call gave.
+            is_passed = is_passed or name == "from"
+            passed += is_passed
+            own[name] = own.get(name, 0) + (not is_passed)
+    return {name: count for name, count in own.items() if count}, passed
+
+
+def rows(checker):
+    yield "| Source | By itself | Passed on |"
+    yield "|---|---|---|"
+    for path, text in sources(checker):
+        for found in RENAMED.finditer(text):
+            checker.find(1, f"{path}: {found[1] or found[2]}: another name of a failure")
+        own, passed = counted(text)
+        if own or passed:
+            by_itself = ", ".join(f"`{name}` {count}" for name, count in own.items())
+            yield f"| `{path.removeprefix('crates/')}` | {by_itself} | {passed or ''} |"
+
+
+MAKERS = {"failures": rows}
