@@ -121,7 +121,7 @@ BREAKS = {
     "copy-bad": (f"cp -a {LAST}/site.tar.gz /root/kept; truncate -s 1000 {LAST}/site.tar.gz",
                  f"cp -a /root/kept {LAST}/site.tar.gz"),
     # It is no right file for FreeRADIUS, either: another line says so.
-    "copy-sql": appended('dialect = \\"postgresql\\"\\n', f"{FRONT}/users.conf"),
+    "copy-sql": appended('dialect = "postgresql"\\n', f"{FRONT}/users.conf"),
     "copy-exports": (f"mv {COPIES}/exports /root/", f"mv /root/exports {COPIES}/"),
 }
 # What the doctor cannot look at, by the side that it names: each is no sound site. A pipe in the

@@ -62,10 +62,11 @@ class Asking:
         return "Received Access-Accept" in self.login()
 
     def report(self, blocks):
-        """Whether a report of a session is answered."""
+        """Whether a report of a session is answered: of one login, whichever machine hears it."""
         given = re.search(r"Class = (0x[0-9a-f]+)", self.login())
+        self.stamp = self.stamp or (given[1] if given else "0x00")
         said = self.asked(1813, "acct", "User-Name=al", "Acct-Session-Id=S-1",
-                          "Acct-Status-Type=Stop", f"Class={given[1] if given else '0x00'}",
+                          "Acct-Status-Type=Stop", f"Class={self.stamp}",
                           f"Acct-Input-Octets={blocks * BLOCK}")
         return "Received Accounting-Response" in said
 
@@ -106,7 +107,7 @@ class Lost(Asking):
 
     def __init__(self, box):
         super().__init__(titled(box, "the lost machine"))
-        self.sheets, self.codes, self.key = [], [], ""
+        self.sheets, self.codes, self.key, self.stamp = [], [], "", ""
 
     def set_up(self, staged):
         """A site by one command."""
@@ -143,7 +144,7 @@ class Lost(Asking):
         check("the night's copy", (status, told), (0, ""))
         if status:
             print(box.run("journalctl -u radacctd-nightly -n 20 -o cat")[1])
-        name = box.must("ls -d /var/backups/radacctd/2*").strip()
+        name = box.must("ls -td /var/backups/radacctd/2* | head -n 1").strip()
         listed = box.must(f"find {name} /var/backups/radacctd -maxdepth 1 -printf '%m %u %f\\n'")
         others = [it for it in listed.splitlines() if not re.match(r"[67]00 root ", it)]
         check("the copy is for root alone", others, [])
@@ -163,6 +164,7 @@ class Again(Asking):
     def __init__(self, box, lost):
         super().__init__(titled(box, "the new machine"))
         self.sheets, self.codes, self.key = lost.sheets, lost.codes, lost.key
+        self.stamp = lost.stamp
 
     def follow(self, staged):
         """Each step of the page. The copy comes without a network, and radacctd without apt."""

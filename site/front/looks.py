@@ -28,10 +28,11 @@ def look_at(kind):
     if not kind.has_front:
         return
     settings = files.text(f"{RADDB}/settings.conf")
+    # What cannot be read is said at once: FreeRADIUS would wait for a pipe.
+    yield from secrets()
     yield from folder()
     yield from to_radacctd(kind.book, settings)
     yield from answered(kind.book, clients.value(settings, "key"))
-    yield from secrets()
     yield from certificate()
     yield from ignored()
     yield from kept()
