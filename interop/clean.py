@@ -11,7 +11,7 @@ from served import ROOT
 
 PLACE = "/srv/radacctd"
 BUILT = "crates/radacctd/out/radacctd"
-FOLDERS = ["bin", "docs", "etc", "interop", "man", "web", "CHANGELOG.md", "README.md"]
+FOLDERS = ["bin", "docs", "etc", "interop", "man", "site", "CHANGELOG.md", "README.md"]
 
 
 def sources():

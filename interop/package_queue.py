@@ -88,7 +88,7 @@ def upgraded(box):
 
 
 def removed(box):
-    """apt removes the package, and what reads no file of it goes on."""
+    """apt removes the package with its units, and nginx goes on."""
     check("apt removes it", box.run("apt-get remove -y radacctd")[0], 0)
-    for it in ("nginx", "radacctd-front"):
-        check(f"{it} goes on", box.run(f"systemctl is-active {it}")[1], "active\n")
+    for it, state in (("nginx", "active"), ("radacctd-front", "inactive")):
+        check(f"{it} is {state}", box.run(f"systemctl is-active {it}")[1], f"{state}\n")
