@@ -1,6 +1,5 @@
 """Lists and counts of the pages that are computed from the sources."""
 
-import os
 import re
 
 from claims_lib import figures, followed, hazards, history, made, openers, pictures

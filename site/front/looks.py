@@ -15,8 +15,7 @@ UNIT = "radacctd-front.service"
 RESTART = f"systemctl restart {UNIT}"
 # How long a report may wait, in seconds.
 WAITS = 300
-# Only FreeRADIUS' own lines have a device that it does not know, or whose secret is another one. A
-# line begins with its moment and its kind: names of logins are further behind.
+# Only FreeRADIUS' own lines have a device that it does not know, or whose secret is another one.
 BEGIN = r"(?m)^.{24} : \w+: "
 UNKNOWN = re.compile(BEGIN + r"Ignoring request to .* unknown client (\S+) port \d+ ")
 OTHER_SECRET = re.compile(BEGIN + r"Dropping packet without response because of error: Received "
