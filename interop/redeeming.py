@@ -8,6 +8,7 @@ import tempfile
 sys.path.insert(0, os.path.join(os.path.dirname(os.path.dirname(os.path.abspath(__file__))), "etc"))
 
 import radacctl  # it finds the kit
+from radacctd_site.core import live  # for who imports this
 
 
 class Visitor:
