@@ -12,3 +12,4 @@ pub mod HeadEndLemmas
 pub mod ReadingLemmas
 pub mod LoginLaws
 pub mod Parts
+pub mod PartLaws

@@ -12,4 +12,5 @@ pub mod Responses
 pub mod Handling
 pub mod Laws
 pub mod LoginLaws
+pub mod OverdrawnLaws
 pub mod inner

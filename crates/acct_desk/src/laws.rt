@@ -1,6 +1,7 @@
 //! Laws of the desk, as functions without effect.
 ghost use Rattle.acct_desk.specs.Laws.{OneThingIsAsked, MeFromPart};
 ghost use Rattle.acct_desk.specs.LoginLaws.{PaidOctetsCostTheBalance, LoginKeepsBalance};
+ghost use Rattle.acct_desk.specs.OverdrawnLaws.{PartsAreWhole};
 
 /// No request asks a desk for two things.
 pub fn one_thing_is_asked()
@@ -25,4 +26,11 @@ pub fn paid_octets_cost_the_balance()
 /// without a price nothing is said, and with several sessions the balance may fall below 0.
 pub fn login_keeps_balance()
     ensures { LoginKeepsBalance }
+{}
+
+/// Who asks for the open sessions of accounts below 0 from the first part on, each from where the one
+/// before ended, is told of each such account once, and of all its open sessions, if nothing was
+/// recorded meanwhile.
+pub fn parts_are_whole()
+    ensures { PartsAreWhole }
 {}
