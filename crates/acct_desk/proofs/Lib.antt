@@ -13,3 +13,5 @@ pub mod ReadingLemmas
 pub mod LoginLaws
 pub mod Parts
 pub mod PartLaws
+pub mod OwnIds
+pub mod ToldStamps

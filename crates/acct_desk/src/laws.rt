@@ -2,6 +2,7 @@
 ghost use Rattle.acct_desk.specs.Laws.{OneThingIsAsked, MeFromPart};
 ghost use Rattle.acct_desk.specs.LoginLaws.{PaidOctetsCostTheBalance, LoginKeepsBalance};
 ghost use Rattle.acct_desk.specs.OverdrawnLaws.{PartsAreWhole};
+ghost use Rattle.acct_desk.specs.LoginLaws.{IdsAreRead, ToldStampsAreRead};
 
 /// No request asks a desk for two things.
 pub fn one_thing_is_asked()
@@ -21,9 +22,9 @@ pub fn paid_octets_cost_the_balance()
     ensures { PaidOctetsCostTheBalance }
 {}
 
-/// A login is told what the balance of its account pays by a plan. While only one session of that
-/// plan is charged, and counts at most so much more, the balance stays at 0 or above. Of a plan
-/// without a price nothing is said, and with several sessions the balance may fall below 0.
+/// A login is told what the balance of its account pays by a plan. If after that only reports of one
+/// session of that plan are accepted, and it counts at most so much more, the balance stays at 0 or
+/// above. Of a plan without a price nothing is said, and with several sessions it may fall below 0.
 pub fn login_keeps_balance()
     ensures { LoginKeepsBalance }
 {}
@@ -33,4 +34,15 @@ pub fn login_keeps_balance()
 /// recorded meanwhile.
 pub fn parts_are_whole()
     ensures { PartsAreWhole }
+{}
+
+/// The id that an access server gave a session of a stamped client is read from the session's name
+/// as it was.
+pub fn ids_are_read()
+    ensures { IdsAreRead }
+{}
+
+/// The stamp that a login is told is read by the site as its plan, its login and its account.
+pub fn told_stamps_are_read()
+    ensures { ToldStampsAreRead }
 {}

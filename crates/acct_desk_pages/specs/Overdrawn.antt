@@ -38,7 +38,8 @@ before_payer session None = session
 before_payer session (Some rest) = before_login session (cut_last rest)
 
 -- The id that the access server gave a session. The name of a stamped client's session has the
--- login and the payer behind it, as `ID/LOGIN/PAYER`; others are the id itself.
+-- login and the payer behind it, as `ID/LOGIN/PAYER`. Another client's is the id itself; one that
+-- ends in the same way by chance loses its end here.
 abbrev pub own_id : List ℕ → List ℕ → List ℕ
 own_id account session =
     before_payer session (without_end (concat (codes "/" ∷ coded account ∷ [])) session)

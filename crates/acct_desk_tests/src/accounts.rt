@@ -119,6 +119,23 @@ fn accounts_are_shown_as_to_their_own_keys(rt: HostRuntime) -> Result<(), Fail> 
     desk.expect_answers(alloc, &KEYED)
 }
 
+// An account of each size, also of one that is longer than any.
+#[test]
+fn accounts_of_each_size_are_shown(rt: HostRuntime) -> Result<(), Fail> {
+    let alloc = rt.alloc();
+    let mut desk = desk(alloc, book(alloc)?)?;
+    let mut account = String::new(alloc);
+    for size in 1..256 {
+        account.push_str("e")?;
+        for page in ["balance", "sessions", "topups"] {
+            let target = format!(in alloc; "/accounts/{account}/{page}")?;
+            let octets = desk.answer(alloc, &request(alloc, &target, "desk-key-0000001")?)?;
+            assert!(rt; octets.starts_with(b"HTTP/1.1 200"), "{page} {size}");
+        }
+    }
+    Ok(())
+}
+
 // Such a key does what a cashier's does.
 #[test]
 fn a_clerk_is_a_cashier(rt: HostRuntime) -> Result<(), Fail> {

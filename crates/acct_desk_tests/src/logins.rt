@@ -7,6 +7,7 @@ use acct_book::{Book, MemBook, Row, SessionState};
 use acct_book_fakes::FailingBook;
 use acct_model::{Octets, Text};
 use acct_site::sample_keys;
+use chosen_sizes::chosen_size;
 use std::alloc::Global;
 use std::test::Fail;
 
@@ -266,6 +267,70 @@ fn the_longest_stamp_is_told(rt: HostRuntime) -> Result<(), Fail> {
     Ok(())
 }
 
+// Whether a target gets a page, whatever it says.
+fn is_told(alloc: Global, desk: &mut Desk<MemBook>, target: &str) -> Result<bool, Fail> {
+    let octets = desk.answer(alloc, &request(alloc, target)?)?;
+    Ok(octets.starts_with(b"HTTP/1.1 200"))
+}
+
+// An account, a login and a station of each size, as long as the stamp fits.
+#[test]
+fn logins_of_each_size_are_told(rt: HostRuntime) -> Result<(), Fail> {
+    let alloc = rt.alloc();
+    let mut desk = desk(alloc)?;
+    let mut text = String::new(alloc);
+    for size in 0..33 {
+        let target = format!(in alloc; "/logins/al/gold/{text}/{text}/70")?;
+        assert!(rt; is_told(alloc, &mut desk, &target)?, "login {size}");
+        text.push_str("a")?;
+    }
+    let mut text = String::new(alloc);
+    for size in 1..201 {
+        text.push_str("e")?;
+        let target = format!(in alloc; "/logins/{text}/a%20free%20plan")?;
+        assert!(rt; is_told(alloc, &mut desk, &target)?, "account {size}");
+    }
+    Ok(())
+}
+
+// Each of these SECONDS, and each power of two as a balance.
+#[test]
+fn logins_of_each_number_are_told(rt: HostRuntime) -> Result<(), Fail> {
+    let alloc = rt.alloc();
+    let mut desk = desk(alloc)?;
+    for seconds in 0..3_601 {
+        let target = format!(in alloc; "/logins/al/gold/-/x/{seconds}")?;
+        assert!(rt; is_told(alloc, &mut desk, &target)?, "{seconds} seconds");
+    }
+    for power in 4..53u32 {
+        desk.book
+            .put_session(&row_of(alloc, &LINES[0])?, 1 << power)?;
+        assert!(rt; is_told(alloc, &mut desk, "/logins/al/gold")?, "2^{power}");
+    }
+    Ok(())
+}
+
+// Another number of stations in each run, each of which is counted.
+#[test]
+fn many_stations_are_counted(rt: HostRuntime) -> Result<(), Fail> {
+    let alloc = rt.alloc();
+    let count = chosen_size(&rt, 100, 2_000)?;
+    let mut book = MemBook::new(alloc);
+    for number in 0..count {
+        let mut row = row_of(alloc, &LINES[0])?;
+        let text = format!(in alloc; "{number}")?;
+        row.session = Octets::from_slice(alloc, text.as_bytes())?;
+        row.calling = Octets::from_slice(alloc, text.as_bytes())?;
+        book.put_session(&row, 125)?;
+    }
+    let mut desk = desk_over(alloc, book)?;
+    let asked = request(alloc, "/logins/al/gold/-/x/9999999999")?;
+    let octets = desk.answer(alloc, &asked)?;
+    let end = format!(in alloc; "\"stations\":{count}}}")?;
+    assert!(rt; octets.ends_with(end.as_bytes()), "{count}");
+    Ok(())
+}
+
 #[test]
 fn bad_logins_are_refused(rt: HostRuntime) -> Result<(), Fail> {
     let alloc = rt.alloc();
@@ -314,6 +379,10 @@ fn a_book_that_fails_is_unavailable(rt: HostRuntime) -> Result<(), Fail> {
     }
     desk.book.calls_left = 3;
     assert!(rt; tells(alloc, &mut desk, TOLD[0].0, "200 OK", TOLD[0].1)?);
+    // If the balance is too low for a block, the sessions are not read.
+    desk.book.calls_left = 2;
+    let (path, short) = ("/logins/bo/gold", "402 Payment Required");
+    assert!(rt; tells(alloc, &mut desk, path, short, NO_BALANCE)?);
     Ok(())
 }
 

@@ -5,6 +5,7 @@ use crate::texts::{GET_ONLY, NO_KEY, NO_PATH, NOT_ALLOWED, Turn, UNAVAILABLE};
 use acct_book::{Book, MemBook, Row, SessionState};
 use acct_book_fakes::FailingBook;
 use acct_model::{Octets, Text};
+use chosen_sizes::chosen_size;
 use std::alloc::Global;
 use std::test::Fail;
 
@@ -186,6 +187,20 @@ fn a_part_has_a_thousand_rows(rt: HostRuntime) -> Result<(), Fail> {
     assert!(rt; tells(alloc, &mut desk, "/overruns/sessions", "200 OK", &whole)?);
     let mut desk = with_sessions(alloc, 999)?;
     assert!(rt; !tells(alloc, &mut desk, "/overruns/sessions", "200 OK", &whole)?);
+    Ok(())
+}
+
+// Another number of sessions of one account in each run: it is told, and so is where to go on.
+#[test]
+fn an_account_of_many_sessions_is_told(rt: HostRuntime) -> Result<(), Fail> {
+    let alloc = rt.alloc();
+    let count = chosen_size(&rt, 1_002, 5_000)?;
+    let whole = format!(in alloc; "{{\"next\":\"al\",\"sessions\":[{FIRST}]}}")?;
+    let mut desk = with_sessions(alloc, count)?;
+    assert!(rt;
+        tells(alloc, &mut desk, "/overruns/sessions", "200 OK", &whole)?,
+        "{count}"
+    );
     Ok(())
 }
 

@@ -549,3 +549,86 @@ fn keys_have_the_roles_of_their_tables(rt: HostRuntime) -> Result<(), Fail> {
     assert!(rt; are_roles(&config_of(rt.alloc(), ROLES)?));
     Ok(())
 }
+
+// A site whose logins are stamped. The old secret has the most octets.
+const STAMPED: &str = "[stamp]
+secret = '0123456789abcdef'
+old = '0123456789abcdef0123456789abcdef0123456789abcdef0123456789abcdef'
+[[client]]
+name = 'ap1'
+address = '10.0.0.1'
+secret = 's'
+[[client]]
+name = 'hall'
+address = '10.0.0.2'
+secret = 't'
+stamped = true
+proxy = true
+plan = 'basic'
+[[plan]]
+class = 'default'
+block = 1
+unit = 0
+";
+
+fn is_stamped_site(config: &Config) -> bool {
+    let Some(stamping) = config.clients.stamping() else {
+        return false;
+    };
+    let Some(old) = &stamping.secrets.old else {
+        return false;
+    };
+    match stamping.clients.as_slice() {
+        [hall] => {
+            hall.name.as_str() == "hall"
+                && hall.proxy
+                && hall.plan.as_slice() == b"basic".as_slice()
+                && stamping.secrets.secret.as_slice() == b"0123456789abcdef".as_slice()
+                && old.as_slice().len() == 64
+        }
+        _ => false,
+    }
+}
+
+#[test]
+fn a_stamped_site_is_read(rt: HostRuntime) -> Result<(), Fail> {
+    assert!(rt; is_stamped_site(&config_of(rt.alloc(), STAMPED)?));
+    Ok(())
+}
+
+// Texts that come after a plan `default`: what is wrong with a stamp, or with who needs one.
+static REFUSED_STAMPS: [Refused; 9] = [
+    ("[stamp]\nsecret = '0123456789abcde'", "BadStamp in Top 0"),
+    (
+        "[stamp]\nsecret = '0123456789abcdef'\nold = ''",
+        "BadStamp in Top 0",
+    ),
+    (
+        "[stamp]\nsecret = '0123456789abcdef0123456789abcdef0123456789abcdef0123456789abcdef0'",
+        "BadStamp in Top 0",
+    ),
+    ("[stamp]\nold = '0123456789abcdef'", "BadShape in Top 0"),
+    ("[stamp]\nsecret = 1", "BadShape in Top 0"),
+    (
+        "[stamp]\nsecret = '0123456789abcdef'\nnew = ''",
+        "BadShape in Top 0",
+    ),
+    (
+        "client = [{name='a', address='1.2.3.4', secret='s'},
+{name='b', address='1.2.3.5', secret='s', stamped=true}]",
+        "NoStamp in Client 1",
+    ),
+    (
+        "client = [{name='a', address='1.2.3.4', secret='s', proxy=true}]",
+        "BadClient in Client 0",
+    ),
+    (
+        "client = [{name='a', address='1.2.3.4', secret='s', plan='gold'}]",
+        "BadClient in Client 0",
+    ),
+];
+
+#[test]
+fn faults_of_stamps_are_told(rt: HostRuntime) -> Result<(), Fail> {
+    expect_faults(rt.alloc(), DEFAULT, &REFUSED_STAMPS)
+}

@@ -63,6 +63,42 @@ fn stamps_of_the_old_secret_and_of_the_most_octets_are_read(rt: HostRuntime) -> 
     Ok(())
 }
 
+// Lower-case letters that are also digits of a login, others at each size.
+fn letters(size: usize) -> [u8; 253] {
+    let mut octets = [0; 253];
+    for (place, octet) in octets.iter_mut().enumerate() {
+        *octet = b"abcdef"[(size % 6 + place % 6) % 6];
+    }
+    octets
+}
+
+// A login, an account and a plan of each size, of which a stamp fits a Class.
+#[test]
+fn stamps_of_each_size_are_read(rt: HostRuntime) -> Result<(), Fail> {
+    for size in 0..217usize {
+        let octets = letters(size);
+        let text = octets.get(..size).unwrap_or(&[]);
+        assert!(rt;
+            size > 32 || is_read_again(rt.alloc(), (b"gold", text, b"al"))?,
+            "login {size}"
+        );
+        assert!(rt;
+            size > 214 || is_read_again(rt.alloc(), (b"gold", b"", text))?,
+            "name {size}"
+        );
+        assert!(rt;
+            is_read_again(rt.alloc(), (text, b"", b"al"))?,
+            "plan {size}"
+        );
+    }
+    Ok(())
+}
+
+fn is_read_again(alloc: Global, facts: Facts<'_>) -> Result<bool, Fail> {
+    let value = made(alloc, SECRET, facts)?;
+    is_read(alloc, facts, value.as_slice())
+}
+
 // Values that no secret of the site made: without a field, of another kind, in another case, spelled
 // otherwise, cut, too long, of a login that is none, by nobody.
 static OTHERS: [&[u8]; 10] = [

@@ -12,3 +12,5 @@ pub mod Heard
 pub mod Spelled
 -- the lines of reasons, one more
 pub mod EachReason
+-- why a device is none of another client's
+pub mod Tellers

@@ -1,11 +1,13 @@
 -- Laws of how datagrams are judged, and of the clients of a site.
-use Rattle.std.specs.Prelude.{◌≡◌, ◌≢◌, ℕ, List, None}
+use Rattle.std.specs.Prelude.{◌≡◌, ◌≢◌, ℕ, List, None, Option, All}
 use Rattle.std.specs.List.{AllPairs}
 use Rattle.acct_model.specs.declared.entry.Entry.{Entry}
 use Rattle.acct_model.specs.Entries.{Attributes}
 use Rattle.acct_wire.specs.declared.client.Client.{Client}
 use Rattle.acct_wire.specs.declared.reason.Reason.{Reason}
+use Rattle.acct_wire.specs.declared.hearing.StampedClient.{StampedClient}
 use Rattle.acct_wire.specs.Clients.{ClientsFacts}
+use Rattle.acct_wire.specs.Hearing.{told_of}
 use Rattle.acct_wire.specs.ClientFaults.{clients_fault}
 use Rattle.acct_wire.specs.Datagrams.{Breaks, RequestAsks, IsAsking}
 
@@ -31,3 +33,10 @@ OneEntryIsAsked = (clients : ClientsFacts) (source bytes : List ℕ) (moment : �
 abbrev pub ClientsDiffer : Type 0
 ClientsDiffer = (clients : List Client) → clients_fault clients ≡ None
     → AllPairs (λ one other. (one.name ≢ other.name) × (one.address ≢ other.address)) clients
+
+-- Where no name of a client has a `/`, what is told of one client, or of a device behind it, is told
+-- of no other and of no device behind another.
+abbrev pub TellersDiffer : Type 0
+TellersDiffer = (name other : List ℕ) (ps qs : Attributes) (c d : Option StampedClient)
+    → All (λ octet. octet ≡ 47 → ⊥) name → All (λ octet. octet ≡ 47 → ⊥) other
+    → told_of name ps c ≡ told_of other qs d → name ≡ other

@@ -188,6 +188,19 @@ fn a_device_closes_its_own_sessions(rt: HostRuntime) -> Result<(), Fail> {
     Ok(())
 }
 
+// A device of each size of a name is heard, and closes its sessions.
+#[test]
+fn a_device_of_each_size_is_heard(rt: HostRuntime) -> Result<(), Fail> {
+    for size in 0..254usize {
+        let mut site = stamped(rt.alloc(), true)?;
+        let name = [b'd'; 253];
+        let device: [(u8, &[u8]); 1] = [(32, name.get(..size).unwrap_or(&[]))];
+        assert!(rt; behind(&mut site, 3, &device)? == SHORT_REPLY, "{size}");
+        assert!(rt; behind(&mut site, 7, &device)? == SHORT_REPLY, "{size}");
+    }
+    Ok(())
+}
+
 // What becomes of a packet of a status value with the stamp of `al`, from behind a proxy.
 fn behind(site: &mut Site, status: u8, device: &[(u8, &[u8])]) -> Result<Outcome, Fail> {
     let mut attributes: [(u8, &[u8]); 8] = [(79, &[]); 8];
