@@ -9,7 +9,7 @@ FRONT, KEPT = "/etc/radacctd-front", "/var/lib/radacctd-front"
 SETTINGS, CERTIFICATE = f"{FRONT}/settings.conf", f"{FRONT}/certs/server.pem"
 CONFIG, COPIES = "/etc/radacctd.toml", "/var/backups/radacctd"
 # A test that goes on over midnight has a copy of both days.
-LAST = f"$(ls -d {COPIES}/20* | tail -1)"
+LAST = f"$(ls -d {COPIES}/site-* | tail -1)"
 PROGRAM = "/usr/local/libexec/radacctd/radacctd"
 # A report with a wrong secret, straight to radacctd.
 WRONG = "echo 'User-Name=a,Acct-Status-Type=Start,Acct-Session-Id=1"
@@ -117,12 +117,8 @@ BREAKS = {
     "reports-aside": waiting("aside"),
     "pages-settings": kept("/etc/radacctd-web/settings.json",
                            "echo '{}' > /etc/radacctd-web/settings.json"),
-    "copy-old": (f"touch -d '2 days ago' {COPIES}/20*", f"touch {COPIES}/20*"),
-    "copy-bad": (f"cp -a {LAST}/site.tar.gz /root/kept; truncate -s 1000 {LAST}/site.tar.gz",
-                 f"cp -a /root/kept {LAST}/site.tar.gz"),
-    # It is no right file for FreeRADIUS, either: another line says so.
-    "copy-sql": appended('dialect = "postgresql"\\n', f"{FRONT}/users.conf"),
-    "copy-exports": (f"mv {COPIES}/exports /root/", f"mv /root/exports {COPIES}/"),
+    "copy-old": (f"touch -d '2 days ago' {COPIES}/site-*", f"touch {COPIES}/site-*"),
+    "copy-bad": (f"mv {LAST}/SHA256SUMS /root/kept", f"mv /root/kept {LAST}/SHA256SUMS"),
 }
 # What the doctor cannot look at, by the side that it names: each is no sound site. A pipe in the
 # place of a file would hold who opens it.

@@ -1,4 +1,4 @@
-"""Follows docs/GONE.md: a machine with a whole site, and an empty one that gets its copy."""
+"""Follows site/copies/README.md: a machine with a whole site, and an empty one that gets its copy."""
 
 import os
 import re
@@ -11,7 +11,7 @@ from front import ROOT, waits_for
 from served import check
 from service import BALANCES, BOOK, CONFIG, until
 
-PAGE = os.path.join(ROOT, "docs", "GONE.md")
+PAGE = os.path.join(ROOT, "site", "copies", "README.md")
 FRONT, HOST = start_site.FRONT, start_site.HOST
 URL, RESOLVED = f"https://{HOST}", ("--resolve", f"{HOST}:443:127.0.0.1")
 # A user who may log in.
@@ -24,7 +24,7 @@ FILES += ["/etc/radacctd-web/*.json", "/etc/nginx/conf.d/*"]
 FILES += [f"{FRONT}/*", f"{FRONT}/certs/*", f"{FRONT}/secrets/*", "/etc/ssl/radacctd.pem"]
 FILES += ["/etc/ssl/private/radacctd.key", "/var/lib/radacctd-books/*"]
 UNITS = ["radacctd", "radacctd-front", "radacctd-cut", "radacctd-site.socket", "nginx"]
-UNITS += ["radacctd-nightly.timer", "radacctd-key.timer", "radacctd-minute.timer"]
+UNITS += ["radacctd-copy.timer", "radacctd-key.timer", "radacctd-minute.timer"]
 
 
 def titled(box, title):
@@ -71,10 +71,11 @@ class Asking:
         return "Received Accounting-Response" in said
 
     def exports(self):
-        """All that the book has, as its exports."""
+        """All that the book has, as its exports, but for what set-ups tried."""
         words = f"radacctd export --config {CONFIG} --db {BOOK}"
         self.box.must("systemctl stop radacctd")
-        found = {it: self.box.must(f"{words} {it}") for it in ("sessions", "balances", "topups")}
+        found = {it: self.box.must(f"{words} {it} | grep -v radacctd-setup")
+                 for it in ("sessions", "balances", "topups")}
         self.box.must("systemctl start radacctd")
         return found
 
@@ -140,16 +141,16 @@ class Lost(Asking):
     def copy_to(self, folder):
         """A night's copy, which another machine gets."""
         box = self.box
-        status, told = box.run("systemctl start radacctd-nightly")
-        check("the night's copy", (status, told), (0, ""))
-        if status:
-            print(box.run("journalctl -u radacctd-nightly -n 20 -o cat")[1])
-        name = box.must("ls -td /var/backups/radacctd/2* | head -n 1").strip()
+        status, told = box.run("radacctl copy")
+        check("a copy", (status, "is a sound copy" in told), (0, True))
+        print("         " + told)
+        name = box.must("radacctl copy list").split()[-1]
         listed = box.must(f"find {name} /var/backups/radacctd -maxdepth 1 -printf '%m %u %f\\n'")
         others = [it for it in listed.splitlines() if not re.match(r"[67]00 root ", it)]
         check("the copy is for root alone", others, [])
-        wanted = ["book", "book-wal", "debits.csv", "radacctd.toml", "site.tar.gz", "sizes"]
+        wanted = ["SHA256SUMS", "book", "book-wal", "copy.json", "files"]
         check("and has all", sorted(box.must(f"ls {name}").split()), wanted)
+        check("it is checked", box.run(f"radacctl copy check {name}")[0], 0)
         shutil.copytree(box.root + name, folder, dirs_exist_ok=True)
 
 
@@ -172,10 +173,10 @@ class Again(Asking):
         box.must("systemctl disable --now freeradius nginx 2>&1")
         box.must("rm -rf /etc/radacctd* /var/lib/radacctd*")
         found = commands("Restore the site")
-        check("the page has nine steps", sorted(found), list(range(1, 10)))
+        check("the page has five steps", sorted(found), list(range(1, 6)))
         for number, text in sorted(found.items()):
             for old, new in (
-                ("rsync -a backup@other:radacctd/2026-11-27/", "cp -a /root/sent/."),
+                ("rsync -a backup@other:radacctd/site-2026-11-27/", "cp -a /root/sent/."),
                 ("apt-get update\n", ""),
                 ("apt-get install", "apt-get install --yes"),
             ):
@@ -217,5 +218,5 @@ class Again(Asking):
         box.must("radacctl debit bo 7 VOID-A-2 2>&1")
         told = box.run("radacctl debit cy 7 VOID-A-2")
         check("a debit's number is known", (told[0], "was given before" in told[1]), (1, True))
-        box.must("systemctl start radacctd-nightly")
+        box.must("radacctl copy")
         told = box.must("printf 'voucher,account,sum\\nB-1,cy,60\\nB-2,cy,1\\n' | radacctl sell")

@@ -98,13 +98,13 @@ def restored(site):
     """"Back up and restore"."""
     sold = site.sell("B-1")
     check("a voucher before the copy", sold, '{"result":"new"}')
-    site.box.must("mkdir -p /var/backups")
     text = section("Back up and restore")
-    run(site.box, re.search(r"(?m)^    (radacctd-backup .*)$", text)[1])
+    commands = re.findall(r"(?m)^\d\. `(.*)`$", text)
+    run(site.box, commands[0])
     before = site.balance()
     site.sell("B-2")
-    for command in re.findall(r"(?m)^\d\. `(.*)`$", text):
-        run(site.box, command)
+    for command in commands[1:]:
+        run(site.box, command.replace("DATE", site.box.must("date +%F").strip()))
     check("the copy is served", site.balance(), before)
 
 

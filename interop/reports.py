@@ -1,5 +1,6 @@
 """Rows of interop/tools: radacctl report, over nights of use, and over exports that this writes."""
 
+import calendar
 import csv
 import gzip
 import json
@@ -9,8 +10,7 @@ import subprocess
 import time
 
 from served import check
-from tool_nightly import Nights
-from tool_site import DEBIT, INTERIM, MIB, SITE, STOP, Site, run, text_of
+from tool_site import DEBIT, INTERIM, MIB, SITE, STOP, Site, run, text_of, write
 
 SETTINGS = {"name": "", "url": "", "currency": "EUR", "decimals": 2}
 HEADERS = {
@@ -191,6 +191,24 @@ def test_rows(tool, folder):
     carried(Exports(tool, os.path.join(folder, "carried")))
 
 
+class Nights:
+    """The exports of a book, as copies of nights that the test chooses write them."""
+
+    def __init__(self, site):
+        self.site, self.exports = site, os.path.join(site.folder, "exports")
+
+    def __call__(self, night):
+        self.site.kill()
+        moment = calendar.timegm(time.strptime(night, "%Y-%m-%d %H:%M:%S"))
+        folder = os.path.join(self.exports, night[:10])
+        os.makedirs(folder)
+        for what in ("sessions", "balances", "topups"):
+            with gzip.open(os.path.join(folder, f"{what}.csv.gz"), "wt", newline="") as file:
+                file.write(self.site.command("export", what)[1])
+        write(os.path.join(folder, "taken"), f"{moment}\n")
+        self.site.start()
+
+
 def nights_of_use(site, nights):
     """Three nights with a long session, and what came between them."""
     site.send(INTERIM, "long", 100 * MIB)
@@ -198,17 +216,16 @@ def nights_of_use(site, nights):
     site.send(INTERIM, "gone", 2 * MIB, account="bo")
     for odd in ("\x01", "%", "é", "A,B", "~"):
         site.send(INTERIM, odd, 0, account="bo")
-    first = nights("2026-10-01 00:00:02")
+    nights("2026-10-01 00:00:02")
     site.send(INTERIM, "long", 250 * MIB)
     site.send(STOP, "short", 10 * MIB, account="bo")
     site.sell("DESK1-2", "al", 300)
     site.sell("DESK2-1", "bo", 40)
     site.send(STOP, "VOID-1", 77, plan="debit")
-    second = nights("2026-10-02 00:00:01")
+    nights("2026-10-02 00:00:01")
     site.send(STOP, "long", 300 * MIB)
     site.send(INTERIM, "late", 5 * MIB, account="bo", plan="default")
-    third = nights("2026-11-01 00:00:03")
-    check("three nights", [it[0] for it in (first, second, third)], [0, 0, 0])
+    nights("2026-11-01 00:00:03")
 
 
 def reported(nights, folder, *words):

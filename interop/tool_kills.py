@@ -32,7 +32,6 @@ class Killed:
         self.accounts, self.sold, self.sheets, self.number = set(), {}, {}, 0
         self.withdrawn = set()
         os.mkdir(f"{folder}/site", 0o700)
-        os.mkdir(f"{folder}/backups")
         for name in ("key", "radacctd-site.key", "radacctd-books.secret"):
             write(f"{folder}/{name}", CASHIER + "\n")
         write(f"{folder}/settings.json", json.dumps(SETTINGS))
@@ -49,7 +48,7 @@ class Killed:
         return process
 
     def kill(self, name, words, text=b"", env=None):
-        """Kills a run with all that it started, and lets the server go on if a copy stopped it."""
+        """Kills a run with all that it started."""
         process = self.begin(words, text, env)
         time.sleep(self.rng.uniform(0, self.times.get(name, 1.0)))
         is_over = process.poll() is not None
@@ -58,8 +57,6 @@ class Killed:
         except ProcessLookupError:
             pass
         process.communicate()
-        if self.site.process:
-            self.site.process.send_signal(signal.SIGCONT)
         self.counts.setdefault(name, [0, 0])[is_over] += 1
 
     def whole(self, name, words, text=b"", env=None):
@@ -151,27 +148,6 @@ class Killed:
         self.need("it is withdrawn", self.whole("withdraw", words, env=self.site_env())[0], 0)
         self.withdrawn |= set(codes)
 
-    def night(self):
-        env = {"RADACCTD_CONFIG": self.site.config, "RADACCTD_BOOK": self.site.book,
-               "RADACCTD_BACKUPS": f"{self.folder}/backups",
-               "RADACCTD_JOURNAL": f"{self.folder}/debits.csv"}
-        words = self.tool("night")
-        self.kill("night", words, env=env)
-        for name in self.copies():
-            path = f"{self.folder}/backups/{name}/site.tar.gz"
-            self.need(f"the copy {name} is whole", run(self.tool("site", "test", path))[0], 0)
-        before = self.copies()
-        # The copy's name has its second: one of the second that was killed is there.
-        time.sleep(1.1)
-        status, _, errors = self.whole("night", words, env=env)
-        self.need("a night ends well", (status, errors if status else ""), (0, ""))
-        self.need("with one copy more", len(self.copies()) - len(before), 1)
-        left = [it for it in os.listdir(f"{self.folder}/backups") if it.startswith((".new", ".pl"))]
-        self.need("and nothing half", left, [])
-
-    def copies(self):
-        return sorted(it for it in os.listdir(f"{self.folder}/backups") if it[0] == "2")
-
     def exports(self):
         return [self.site.command("export", it)[1] for it in ("sessions", "balances", "topups")]
 
@@ -181,7 +157,7 @@ def test_kills(folder):
     rounds = int(os.environ.get("RADACCTD_KILLS", ROUNDS))
     rng = random.Random(seed)
     it = Killed(folder, rng)
-    names = ["key", "revoke", "sell", "voucher", "withdraw", "night"]
+    names = ["key", "revoke", "sell", "voucher", "withdraw"]
     try:
         it.site.send(INTERIM, "S-1", 5_000_000)
         for number in range(rounds):

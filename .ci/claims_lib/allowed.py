@@ -32,7 +32,6 @@ VENDORS = each(
 ALLOWED = {
     "*": {
         "site.db": "the store of site/core",
-        "site.tar.gz": "radacctl site makes it in a night's copy",
         "rattle-kit-13f logic dac8208d650f15bf": "the kit's own name of its version",
         **each("sqlite3's own words", ".backup", ".dump", "-readonly", "PRAGMA journal_mode=DELETE"),
         **each("systemd's and chrony's own", "chrony-wait", "time-sync.target"),
@@ -43,18 +42,12 @@ ALLOWED = {
     "CHANGELOG.md": {
         "radacctd 0.1.0 (schema 3)": "what --version prints",
     },
-    "docs/BOOK.md": {
-        "restored; what was there is in /var/lib/radacctd/book.replaced-20261126-114636": (
-            "an example of a line"
-        ),
-        ".restore.*": "restore makes it",
-    },
     "docs/CODEC.md": {
         "Result": "Rust's own",
         "and_then(word_of)": "shows what the checker does not accept",
     },
-    "docs/DAMAGE.md": each("restore makes it", ".restore.*", "book.replaced-..."),
-    "man/radacctl.8": each("a command of radacctl", "night", "allow", "person", "sales", "who"),
+    "docs/DAMAGE.md": each("restore makes it", "book.before-..."),
+    "man/radacctl.8": each("a command of radacctl", "restore", "allow", "person", "sales", "who"),
     "docs/DOCTOR.md": {
         **each("a fault's name: .ci/tools compares them", "book-shut", "drop-secret", "log-odd"),
     },
@@ -88,13 +81,6 @@ ALLOWED = {
         "radacctd-...": "stands for all tools",
         "target/radacctd_VERSION_amd64.deb": "bin/package makes it",
     },
-    "docs/GONE.md": {
-        **each("a folder of root's, as in the steps", "/root", "/root/copy"),
-        "radacctd_*_amd64.deb": "bin/package makes it",
-    },
-    "man/radacctd-backup.8": {"FOLDER/book-wal": "a copy"},
-    "man/radacctd-restore.8": {"BOOK.replaced-DATE-TIME": "restore makes it"},
-    "man/radacctd-nightly.8": {"exports/DATE": "a folder that it makes"},
     "docs/TROUBLE.md": {
         **each(
             "an example of a line",

@@ -48,10 +48,8 @@ CURES = {
     "certificate-ends": "renew it, and reload nginx, or restart radacctd-front",
     "certificate-old": "reload nginx, or restart radacctd-front",
     "pages-settings": "write name, address and currency",
-    "copy-old": "`systemctl start radacctd-nightly`",
+    "copy-old": "`radacctl copy`",
     "copy-bad": "[DAMAGE](DAMAGE.md); make a copy now",
-    "copy-exports": "make a copy now",
-    "copy-sql": "`systemctl start radacctd-nightly` says why",
     "pair-waits": "start what is down ([two machines](../site/pair/README.md))",
 }
 

@@ -17,7 +17,6 @@ KEPT = {
         "The file without its log is the whole book only",
         "`cp` of the two files from a running server gives no book",
         "no other program may write such a book",
-        "A copy that needs a pause of more than 30 seconds is abandoned",
         "It cannot see a change that leaves every sum right",
     ),
     "docs/DAMAGE.md": (
@@ -52,13 +51,6 @@ KEPT = {
         "Do not sell it a second time",
         "They count in the next shift, once the book has them",
         "It cannot be undone",
-    ),
-    "docs/GONE.md": (
-        "What happened after the copy is lost",
-        "live again",
-        "it goes on",
-        "the login and the key are back",
-        "A copy has every secret of the site",
     ),
     "docs/INSTALL.md": (
         "that group reads every secret and the cashiers' keys",
@@ -113,7 +105,6 @@ KEPT = {
         "a debit acts once only while it is in the book",
         "Let no access server send the Class `debit`",
         "A restart without step 3 fails",
-        "the copy is sound",
     ),
     "docs/WATCHING.md": ("each report that was set aside is money that nobody was charged",),
 }

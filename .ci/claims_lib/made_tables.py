@@ -128,8 +128,7 @@ EXPLAINED = {
     **dict.fromkeys(("package", "code"), "[packages](../site/packages/README.md)"),
     "allow": "[below](#allowances)",
     "report": "[below](#reports)",
-    "night": "[below](#copies-and-exports-each-night)",
-    "site": "[GONE](GONE.md#restore-the-site)",
+    **dict.fromkeys(("copy", "restore"), "[copies](../site/copies/README.md)"),
 }
 
 

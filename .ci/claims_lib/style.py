@@ -29,7 +29,6 @@ MOST = {
     "docs/FORWARD.md": 1033,
     "docs/FRONTDESK.md": 660,
     "docs/GATE.md": 965,
-    "docs/GONE.md": 710,
     "docs/INSTALL.md": 1050,
     "docs/PROOFS.md": 2335,
     "docs/SEMANTICS.md": 1130,

@@ -5,7 +5,6 @@ person, and why. docs/BENCHES.md has the table.
 # The scripts that run a page's commands, by its name.
 RUN = {
     "DESK": "interop/desk_page.py",
-    "GONE": "interop/gone_page.py",
     "INSTALL": "interop/install_page.py",
     "START": "interop/start",
     "WATCHING": "interop/monitoring",
@@ -13,7 +12,7 @@ RUN = {
 # Pages whose commands a person types, and why no script does.
 BY_HAND = {
     "ACCESS-SERVERS": "each setting is of another maker's device: interop/access-servers",
-    "BOOK": "interop/backup, flips and run use the same commands over their own books",
+    "BOOK": "flips, gone and run use the same commands over their own books",
     "FORWARD": "interop/forward does the same over its own books",
     "SITE": "interop/systemd types the steps of a change, and no script those of a plan",
     "DOCTOR": "interop/doctor breaks a site in each way of the page",

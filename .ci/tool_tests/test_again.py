@@ -15,7 +15,7 @@ import unittest
 from unittest import mock
 
 from radacctl import configuration, files
-from radacctl.commands import setup, site as copying
+from radacctl.commands import setup
 from radacctl.doctor import book, machine, web as of_web
 from radacctl.setup import alone, answers, steps, web
 import tool_tests
@@ -281,26 +281,15 @@ class Pages(Folder):
             self.assertFalse(os.path.lexists(of_web.NGINX) or os.path.lexists(steps.TRIAL))
 
 
-class Copied(Folder):
-    def test_no_name_in_freeradius_files_leads_out_of_the_folders_of_certificates(self):
-        self.put("certificate_file = /etc/ssl/certs/a.pem\nca_file = /etc/ssl/../shadow\n"
-                 "x = /etc/letsencrypt/live/../../passwd\ny = /etc/ssl/private/a..b.key\n", "eap")
-        self.assertEqual(copying.named_in(self.folder),
-                         {"/etc/ssl/certs/a.pem", "/etc/ssl/private/a..b.key"})
-
-
 class Ends(unittest.TestCase):
-    def test_a_run_that_was_killed_before_its_copy_makes_it(self):
+    def test_whatever_changes_is_tried_anew(self):
         one = wanted()
-        for changes, is_tried, is_copied, names in (
-            (True, True, True, ["Step"]), (True, False, False, ["Step", "Command"]),
-            (False, True, False, ["Command"]), (False, False, True, ["Step"]),
-            (False, True, True, []),
-        ):
+        for changes, is_tried, is_all in ((True, True, True), (True, False, True),
+                                          (False, False, True), (False, True, False)):
             with mock.patch.object(setup.os.path, "exists", lambda _, it=is_tried: it), \
-                    mock.patch.object(setup, "has_copy", lambda it=is_copied: it):
+                    mock.patch.object(setup, "of_features", lambda *_: ["a try"]):
                 found = setup.ends(["a step"] * changes, one)
-            self.assertEqual([type(it).__name__ for it in found], names)
+            self.assertEqual(found, ["a try"] * is_all)
 
     @NEEDS_ROOT
     def test_a_copy_of_secrets_that_a_killed_run_left_goes(self):
@@ -312,12 +301,6 @@ class Ends(unittest.TestCase):
                     mock.patch.object(setup.answers, "read"):
                 self.assertEqual(setup.main(["--dry-run", "site.toml"]), 0)
             self.assertFalse(os.path.exists(trial))
-
-    def test_a_copy_is_looked_for_where_nights_make_it(self):
-        for names, is_done in (([], False), (["exports", "2026-11-28.bad"], False),
-                               (["2026-11-28"], True)):
-            with mock.patch.object(setup.copies, "place", lambda it=names: ("/mnt", it)):
-                self.assertEqual(setup.has_copy(), is_done)
 
 
 if __name__ == "__main__":

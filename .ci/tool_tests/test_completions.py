@@ -6,7 +6,7 @@ import shutil
 import subprocess
 import unittest
 
-from radacctl.main import COMMANDS, KIT, SCRIPTS, cli
+from radacctl.main import COMMANDS, KIT, cli
 from tool_tests import Folder, ROOT
 
 LIBRARY = "/usr/share/bash-completion/bash_completion"
@@ -68,7 +68,7 @@ class Bash(Folder):
         return [set(it.split()) for it in done.stdout.splitlines()]
 
     def test_each_option_and_act_of_radacctl(self):
-        names = [it for it in COMMANDS if it not in SCRIPTS]
+        names = [*COMMANDS]
         found = self.completed("radacctl -", *(f"radacctl {it} -" for it in names))
         self.assertEqual(found.pop(0), {*COMMANDS})
         files = set(os.listdir(self.files))

@@ -14,7 +14,7 @@ import unittest.mock
 
 from radacctl import files, program
 from radacctl.commands import doctor, setup
-from radacctl.doctor import book, copies, faults, kind, look, machine, web as pages
+from radacctl.doctor import book, faults, kind, look, machine, web as pages
 from radacctl.setup import answers, steps
 from tool_tests import ROOT, Folder
 
@@ -284,7 +284,7 @@ class Cures(unittest.TestCase):
             self.assertEqual(machine.unit_of("9"), "user@7.service")
 
     def test_of_a_unit_that_failed(self):
-        units = "radacctd-nightly.service", "radacctd-state@7-1.service"
+        units = "radacctd-copy.service", "radacctd-state@7-1.service"
         lines = "".join(f"{it} loaded failed failed x\n" for it in units)
         # One whose file has gone, as that of a timer that a removal took, is started no more.
         with said((0, lines + "radacctd-clock.timer not-found failed failed x\n")):
@@ -363,15 +363,6 @@ class Unseen(unittest.TestCase):
         self.assertEqual((fault.text[:20 + len(path)], fault.cure),
                          (f"others may read {path}: it", f"chmod o= {path}"))
 
-    def test_the_disk_of_the_copies_is_looked_at_wherever_it_is(self):
-        seen = []
-        named, status = {"RADACCTD_BACKUPS": "/mnt/b"}, lambda it: unittest.mock.Mock(st_dev=it)
-        with unittest.mock.patch.object(look, "values_in", lambda _: named), \
-                unittest.mock.patch.object(look, "status_of", status), \
-                unittest.mock.patch.object(machine, "disk", lambda it: seen.append(it) or ()):
-            list(machine.disks(unittest.mock.Mock(has_front=False)))
-        self.assertEqual(seen, ["/var/lib/radacctd", "/etc", "/mnt/b", "/var/log"])
-
     def test_counts_that_are_missing(self):
         """Without them nobody knows how old the balances are."""
         for state, wanted in (("active", ["balances-old"]), ("inactive", [])):
@@ -379,42 +370,6 @@ class Unseen(unittest.TestCase):
                 with unittest.mock.patch.object(look, "samples", lambda _: {}):
                     found = list(book.counts(self.kind.book))
             self.assertEqual([it.name for it in found], wanted)
-
-    def test_a_copy_of_a_day_to_come_is_not_the_last_one(self):
-        with tempfile.TemporaryDirectory() as folder:
-            for name in ("2026-01-02", "2099-01-01"):
-                os.mkdir(os.path.join(folder, name))
-                os.utime(os.path.join(folder, name), (1767312000, 1767312000))
-            value = {"RADACCTD_BACKUPS": folder}
-            with unittest.mock.patch.object(look, "values_in", lambda _: value):
-                found = {it.name: it.text for it in copies.look_at(self.kind)}
-        self.assertIn("2099-01-01", found["clock-wrong"])
-        self.assertIn("2026-01-02", found["copy-old"])
-
-    def test_a_copy_that_lost_its_log(self):
-        with tempfile.TemporaryDirectory() as folder:
-            path = os.path.join(folder, "2026-01-02")
-            os.mkdir(path)
-            files.make(f"{path}/book", b"x")
-            said = look.run("cksum", f"{path}/book")[1].replace(f"{path}/", "")
-            files.replace(f"{path}/sizes", f"{said}7 50 book-wal\n".encode())
-            found = [it.text for it in copies.newest(folder, "2026-01-02")]
-            self.assertEqual([*copies.lost(path)], [("book-wal", "50")])
-            # sqlite3 has put the log into the file, or a check has cut it.
-            files.replace(f"{path}/book", b"yy")
-            self.assertEqual([*copies.lost(path)], [])
-            files.make(f"{path}/book-wal", b"l" * 41)
-            for octets, wanted in ((b"x", []), (b"", [("book", "1")])):
-                files.replace(f"{path}/book", octets)
-                self.assertEqual([*copies.lost(path)], wanted)
-            # One that had nothing goes if sqlite3 is asked, and the file stays.
-            files.replace(f"{path}/sizes", f"{said}7 41 book-wal\n".encode())
-            files.replace(f"{path}/book", b"x")
-            os.remove(f"{path}/book-wal")
-            self.assertEqual([*copies.lost(path)], [])
-        self.assertIn(f"{path}/book-wal has not its 50 octets", found)
-        # Its day's exports are looked for by its own name.
-        self.assertIn(f"{folder}/exports/2026-01-02 is missing: no report of that day", found)
 
     def test_each_trace_of_a_part_tells_that_it_is_wanted(self):
         for trace, name in (("/root/radacctd-setup/authority", "has_front"),

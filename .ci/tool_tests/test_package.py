@@ -22,8 +22,7 @@ EXCEPTIONS = {
     "radacctd-faults.service": ROOTS | {"ProtectProc"},
     "radacctd-forward.service": ROOTS,
     "radacctd-key.service": ROOTS | {"ProtectProc"},
-    # A command of the site, where the site says.
-    "radacctd-nightly.service": ROOTS | {"ProtectSystem", "ProtectHome"},
+    "radacctd-copy.service": ROOTS | {"ProtectHome", "ProtectProc"},
 }
 
 

@@ -5,12 +5,11 @@ import json
 import os
 import shutil
 import stat
-import subprocess
 import unittest
 from unittest import mock
 
 from radacctl import files, postgres, site as places
-from radacctl.commands import debit, setup, site
+from radacctl.commands import debit, setup
 from radacctl.setup import alone, answers, steps, web
 import tool_tests
 
@@ -163,9 +162,8 @@ class Site(Folder):
         return None
 
     def test_a_site_that_lost_its_book_gets_no_empty_one(self):
-        copies = [(f"backups/{it}", b"x") for it in (
-            "2026-11-26/book", "2026-11-27/book", "2026-11-28/site.tar.gz", "2026-11-29.bad/book",
-            "9999-01-01/book")]
+        copies = [(f"backups/{it}/book", b"x") for it in (
+            "site-2026-11-26", "site-2026-11-27", "refused-site-2026-11-29")]
         header, line = b"account,balance,quota\n", b"anna,5,1\n"
         self.assertIsNone(self.lost())
         self.assertIsNone(self.lost(("csv", header)), "a server without an account")
@@ -174,12 +172,12 @@ class Site(Folder):
             said = self.lost(*row)
             self.assertIn('DAMAGE.md, "The book is missing"', said, row)
             self.assertIn("--new-book", said)
-            self.assertEqual("the newest good copy is " in said, len(row) > 1)
+            self.assertEqual("the newest copy is " in said, len(row) > 1)
             self.assertIsNone(self.lost(is_new_wanted=True))
             for name in os.listdir(self.folder):
                 path = os.path.join(self.folder, name)
                 shutil.rmtree(path) if os.path.isdir(path) else os.remove(path)
-        self.assertIn("backups/2026-11-27. ", self.lost(*copies).replace("; ", ". "))
+        self.assertIn("backups/site-2026-11-27. ", self.lost(*copies).replace("; ", ". "))
         self.assertIsNone(self.lost(("book", b"x" * 4096)), "a book that is there")
 
     def test_no_new_book_takes_the_name_of_one_whose_server_runs(self):
@@ -288,10 +286,8 @@ class Others(Folder):
         for text in ("dbname=radius password=hidden", "postgresql://radius:hidden@db/radius"):
             text = f'dialect = "postgresql"\nradius_db = "{text}"\n'
             with mock.patch.object(files, "text", lambda *_, it=text: it), \
-                    mock.patch.object(subprocess, "run") as run, \
-                    mock.patch.object(site, "say"), mock.patch.object(os, "makedirs"):
-                site.dump_sql()
-            self.assertEqual(run.call_count, 0)
+                    self.assertRaises(OSError), postgres.connection(postgres.settings()):
+                self.fail("a command may begin")
         text = ('# dialect = "x"\ndriver = "rlm_sql_postgresql", dialect = "postgresql"\n'
                 'server = "db"\nlogin = "radius", password = "a:b\\c", radius_db = radius\n')
         with mock.patch.object(files, "text", lambda _: text):

@@ -15,14 +15,10 @@ COMMANDS = {
     "key": "makes, ends and lists guests' keys",
     "debit": "takes money from an account, once",
     "report": "reports a day or a month",
-    "night": "copies the site for the night",
-    "site": "copies what a site has besides the book",
 }
 # Those of the kit's features.
 KIT = {name: text for name, (text, _) in features.commands().items()}
 COMMANDS = {**COMMANDS, **KIT}
-# These are programs of their own.
-SCRIPTS = {"night": "radacctd-nightly"}
 HELP = """\
 usage: radacctl COMMAND [..]
 
@@ -50,12 +46,9 @@ def command_of(words):
     return words[0], words[1:]
 
 
-def main(path):
-    """Runs what the command line says. `path` is that of the program."""
+def main():
+    """Runs what the command line says."""
     command, words = command_of(sys.argv[1:])
-    if command in SCRIPTS:
-        script = os.path.join(os.path.dirname(os.path.realpath(path)), SCRIPTS[command])
-        os.execv(script, [script, *words])
     if command in KIT:
         return run(types.SimpleNamespace(main=lambda words: cli.main(command, words)), words)
     return run(importlib.import_module(f"radacctl.commands.{command}"), words)

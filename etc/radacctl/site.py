@@ -1,5 +1,6 @@
 """Where a site has its files, and where radacctd's own programs are."""
 
+import glob
 import os
 
 CONFIG = "/etc/radacctd.toml"
@@ -29,6 +30,11 @@ REPOSITORY = os.path.dirname(INSTALLED)
 IS_INSTALLED = os.path.basename(INSTALLED) == "radacctd"
 # What a person gives is in sbin.
 SBIN = os.path.normpath(f"{INSTALLED}/../../sbin" if IS_INSTALLED else f"{INSTALLED}/tools")
+
+
+def last_copy():
+    """The path of the newest copy of the site, or None."""
+    return max(glob.glob(f"{BACKUPS}/site-*"), default=None)
 
 
 class Missing(Exception):

@@ -109,10 +109,9 @@ class Site(unittest.TestCase):
 
     def list_plans(self, plans):
         """The plans in force, as radacctd lists them."""
+        rows = [f"{name},{it['block']},{it['unit']},{it['count']}" for name, it in plans.items()]
         with open(self.plans, "w", encoding="ascii") as file:
-            print("class,block,unit,count", file=file)
-            for name, it in plans.items():
-                print(name, it["block"], it["unit"], it["count"], sep=",", file=file)
+            file.write("\n".join(["class,block,unit,count", *rows]))
 
     def write_balances(self):
         """As the book does every few seconds."""

@@ -7,15 +7,16 @@ import subprocess
 import tempfile
 import unittest
 
+import radacctl
 from radacctd_site.core import features
 
 # Runs the tests of who may ask for which page, and shows the commands, of a kit in a folder.
 CHECK = """
 import sys, unittest
+sys.path.append(sys.argv[1] + "/..")
 from radacctd_site.core import cli, features, web
 names = ["radacctd_site.core.test_core." + it for it in ("Roles", "Forms", "Languages")]
-suite = unittest.defaultTestLoader.loadTestsFromNames(names)
-done = unittest.TextTestRunner().run(suite)
+done = unittest.TextTestRunner().run(unittest.defaultTestLoader.loadTestsFromNames(names))
 for name in features.commands():
     cli.parser(name, cli.module_of(name))
 sys.exit(not done.wasSuccessful())
@@ -31,8 +32,8 @@ class Removed(unittest.TestCase):
                 kit = os.path.join(folder, features.NAME)
                 shutil.copytree(features.TOP, kit, ignore=shutil.ignore_patterns(
                     name, "__pycache__"))
-                done = subprocess.run(["/usr/bin/python3", "-Bc", CHECK], cwd=folder,
-                                      capture_output=True, text=True)
+                words = ["/usr/bin/python3", "-Bc", CHECK, *radacctl.__path__]
+                done = subprocess.run(words, cwd=folder, capture_output=True, text=True)
                 self.assertEqual(done.returncode, 0, done.stderr[-2000:])
 
     def test_the_core_names_no_feature(self):

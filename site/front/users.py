@@ -23,8 +23,8 @@ login = "{login}", password = "{password}"
 def of(answers, of_group):
     """The steps to users.conf, and to what it names."""
     if answers.sql:
-        text = POSTGRESQL.format(password=password(answers.sql["password_file"]), **answers.sql)
-        yield of_group("users.conf", lambda old: text if old is None else old)
+        yield of_group("users.conf", lambda old: old or POSTGRESQL.format(
+            password=password(answers.sql["password_file"]), **answers.sql))
         return
     sample = files.text(f"{HERE}/raddb/users.conf")
     yield of_group("users.conf", lambda old: sample if old is None else old)

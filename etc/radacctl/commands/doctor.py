@@ -24,13 +24,12 @@ import time
 
 from radacctd_site.core import features
 from radacctl import files, program
-from radacctl.doctor import book, copies, faults, kind, machine, web
+from radacctl.doctor import book, faults, kind, machine, web
 
 SIDES = {
     "the machine": machine,
     "the configuration": book,
     "the pages": web,
-    "the copies": copies,
 }
 
 
@@ -45,8 +44,8 @@ FOLLOW = ("reports-wait", "balances-old")
 RESTART = re.compile(r"systemctl (?:re)?(?:start|stop) (?:--now )?radacctd(?:@\w+)?"
                      r"(?:\.service)?(?![\w-])")
 FIRST = "first what the line book-away says; stop and restart nothing before"
-# How long the doctor may look at one side, in seconds; the copies are read whole.
-LONGEST, LONGEST_COPIES = 300, 3600
+# How long the doctor may look at one side, in seconds.
+LONGEST = 300
 
 
 def sides():
@@ -58,7 +57,7 @@ def found_in(site):
     found, lost = [], []
     for name, side in sides().items():
         try:
-            with program.within(LONGEST_COPIES if side is copies else LONGEST):
+            with program.within(LONGEST):
                 for fault in side.look_at(site):
                     found.append(fault)
         except Exception as why:  # noqa: BLE001

@@ -3,7 +3,7 @@
     radacctl report [--folder EXPORTS] [--csv FOLDER] [--top N] [--debit-class CLASS]
         [--settings FILE] day [YYYY-MM-DD] | month [YYYY-MM]
 
-EXPORTS is /var/backups/radacctd/exports, where radacctd-nightly writes them: a folder for each
+EXPORTS is /var/backups/radacctd/exports, where each night's copy writes them: a folder for each
 date, with sessions.csv, balances.csv and topups.csv, which may be compressed by gzip. Each is the
 state of the book as that day began. The report is the difference of two of them: so a session of
 six weeks counts in each month with what it used in that month. Without a date it is of yesterday,

@@ -30,7 +30,6 @@ import sys
 from radacctd_site.core import features
 from radacctl import files, program, site
 from radacctl.commands import doctor
-from radacctl.doctor import copies
 from radacctl.setup import alone, answers, devices, steps, web
 
 SAMPLE = """\
@@ -153,16 +152,9 @@ def do(words, wanted):
 
 
 def ends(found, wanted):
-    """What is done at the end: whatever changes is tried anew, and there is a copy."""
+    """What is done at the end: whatever changes is tried anew."""
     is_proved = os.path.exists(alone.PROVED) and not found
-    tries = [] if is_proved else list(of_features("tries", wanted))
-    # The copy of the first night, now: until there is one, a lost disk loses all.
-    copy = steps.Command("copy the site", has_copy, "systemctl", "start", "radacctd-nightly.service")
-    return tries + [copy] * (not copy.is_done())
-
-
-def has_copy():
-    return any(copies.NAME.fullmatch(it) for it in copies.place()[1])
+    return [] if is_proved else list(of_features("tries", wanted))
 
 
 def main(words):

@@ -8,7 +8,7 @@ import tomllib
 
 from radacctd_site.core import places
 from radacctl import desk, files, names, plans, site
-from radacctl.doctor import copies, look
+from radacctl.doctor import look
 from radacctl.doctor.faults import Fault
 
 # Limits of a configuration, and how many are to be free.
@@ -122,7 +122,7 @@ def away(book):
     lines = re.findall(r"^db: the name of .*$", journal_of(book), re.M)
     page = 'DAMAGE.md, "The book is missing"'
     if look.status_of(book.file) is None and not look.is_active(book.unit):
-        last = copies.last_good()
+        last = site.last_copy()
         copy = f"restore the last copy, {last}" if last else "restore the last copy"
         yield Fault("book-away", f"there is no {book.file}, and {book.unit} cannot run",
                     f"look for it; if it is gone, {copy}, and make no new one by init: {page}")

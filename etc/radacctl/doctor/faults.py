@@ -56,9 +56,7 @@ WARNINGS = {
     "certificate-old": "nginx or FreeRADIUS has not read a certificate that was renewed",
     "pages-settings": "the pages' settings are missing or wrong",
     "copy-old": "the last copy is older than 36 hours, or there is none",
-    "copy-bad": "a night's copy was refused, or cannot be read",
-    "copy-exports": "the last night wrote no exports",
-    "copy-sql": "FreeRADIUS' database is not in the last copy",
+    "copy-bad": "a night's copy was refused, or lacks its sums",
     "pair-waits": "reports wait for the other machine",
 }
 MEANINGS = {**CRITICALS, **WARNINGS}

@@ -6,7 +6,7 @@ import re
 import time
 
 from radacctl import site
-from radacctl.doctor import copies, look
+from radacctl.doctor import look
 from radacctl.doctor.faults import Fault
 
 # Free space that a disk is to have at least: a part, or so many octets of a large one.
@@ -115,7 +115,7 @@ def to_come(what, moment):
 
 
 def disks(kind):
-    places = [site.STATE, "/etc", copies.place()[0], "/var/log"]
+    places = [site.STATE, "/etc", site.BACKUPS, "/var/log"]
     if kind.has_front:
         places += ["/var/lib/radacctd-front", "/run"]
     seen = set()

@@ -11,7 +11,7 @@ import time
 import tomllib
 
 from radacctl import configuration, desk, files, names, plans, site
-from radacctl.doctor import copies, look, machine
+from radacctl.doctor import look, machine
 from radacctl.program import told
 from radacctl.setup import steps
 from radacctl.setup.steps import Command, File, Folder, Fresh, Step
@@ -233,9 +233,9 @@ def refuse_if_lost(is_new_wanted):
     if has_book():
         return
     steps.refuse_if_away()
-    copy = copies.last_good()
+    copy = site.last_copy()
     traces = [
-        (copy, f"the newest good copy is {copy}"),
+        (copy, f"the newest copy is {copy}"),
         # A line below its header.
         (len(files.text(site.BALANCES).splitlines()) > 1, f"{site.BALANCES} has accounts"),
         (os.path.exists(PROVED), f"{PROVED} is there"),
@@ -324,7 +324,7 @@ def of(answers, config):
         yield Step("put the new plans into the book: radacctd stops for some seconds",
                    lambda: plans_are_in(config.plans), lambda: put_in_force(book))
     yield Fresh("restart radacctd", "radacctd.service", [site.DEFAULTS])
-    yield from map(unit, ("radacctd.service", "radacctd-nightly.timer", "radacctd-key.timer"))
+    yield from map(unit, ("radacctd.service", "radacctd-key.timer"))
 
 
 def put_in_force(book):

@@ -1,0 +1,1 @@
+"""The night's copy of a site, and its restore."""

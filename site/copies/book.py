@@ -1,0 +1,73 @@
+"""The book's copy: its server stops, file and log are copied, it starts. Reports wait meanwhile."""
+
+import contextlib
+import fcntl
+import os
+import struct
+import subprocess
+import time
+
+from radacctd_site.core import Failed
+from radacctd_site.copies import owners
+from radacctl import site
+from radacctl.doctor import look
+from radacctl.setup import steps
+
+UNIT = "radacctd.service"
+# While this is there, the server was stopped for a copy: the unit starts it again after a kill.
+STOPPED = "/run/radacctd-copy.stopped"
+# Where SQLite locks the octets of a file that it has open.
+LOCK = struct.pack("hhqqi", fcntl.F_RDLCK, os.SEEK_SET, 1 << 30, 512, 0)
+
+
+@contextlib.contextmanager
+def stopped():
+    """Whether the server ran: then it stands still meanwhile."""
+    if not look.is_active(UNIT):
+        yield False
+        return
+    steps.refuse_if_away()
+    open(STOPPED, "w").close()
+    try:
+        steps.given(["systemctl", "stop", UNIT])
+        yield True
+    finally:
+        steps.given(["systemctl", "start", UNIT])
+        os.remove(STOPPED)
+
+
+def copy(folder):
+    """Writes the book and its log into a folder of root's. Returns for how long, in seconds, the
+    server stood still, or None.
+    """
+    begun = time.monotonic()
+    with stopped() as is_stopped, owners.opened(site.BOOK, site.USER) as book:
+        try:
+            fcntl.fcntl(book, fcntl.F_OFD_SETLK, LOCK)
+        except OSError:
+            raise Failed(f"a process has {site.BOOK} open, and is not {UNIT}: stop it") from None
+        with contextlib.ExitStack() as stack:
+            found = {"book": book}
+            with contextlib.suppress(FileNotFoundError):
+                log = stack.enter_context(owners.opened(f"{site.BOOK}-wal", site.USER))
+                found["book-wal"] = log
+            before = marks(found)
+            for name, file in found.items():
+                clone(file, f"{folder}/{name}")
+            if marks(found) != before:
+                raise Failed(f"{site.BOOK} was written meanwhile, and not by {UNIT}")
+    return time.monotonic() - begun if is_stopped else None
+
+
+def marks(found):
+    statuses = [os.fstat(it.fileno()) for it in found.values()]
+    return [(it.st_size, it.st_mtime_ns) for it in statuses]
+
+
+def clone(file, to):
+    """Copies an open file; where the file system can, at once and without its space."""
+    path = f"/proc/self/fd/{file.fileno()}"
+    done = subprocess.run(["cp", "--reflink=auto", path, to], pass_fds=[file.fileno()],
+                          stderr=subprocess.PIPE, text=True)
+    if done.returncode:
+        raise Failed(f"the book cannot be copied: {done.stderr.strip()}")

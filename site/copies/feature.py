@@ -1,0 +1,8 @@
+"""What copies add: two commands, the night's units, and what the doctor looks at."""
+
+COMMANDS = {
+    "copy": ("copies the site, lists and checks its copies", "copy_command"),
+    "restore": ("puts a copy back, on this machine or an empty one", "restore_command"),
+}
+SETUP, LOOKS = "setup", "looks"
+PARTS = [("has_copies", "", "radacctd-copy.timer", ("/etc/radacctd.toml",))]

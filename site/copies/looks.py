@@ -1,0 +1,27 @@
+"""The night's copies: how old the last one is, and whether it was refused."""
+
+import os
+import time
+
+from radacctd_site.copies import kept, places
+from radacctl.doctor.faults import Fault
+
+OLDEST = 36 * 3600
+NOW = "radacctl copy"
+
+
+def look_at(_):
+    good, refused = places.names(), places.names(places.REFUSED)
+    if refused and (not good or refused[-1].removeprefix(places.REFUSED) > good[-1]):
+        yield Fault("copy-bad", f"{places.FOLDER}/{refused[-1]} was refused: the book may be damaged",
+                    "read DAMAGE.md, and journalctl -u radacctd-copy")
+    if not good:
+        yield Fault("copy-old", f"there is no copy in {places.FOLDER}", NOW)
+        return
+    # By the moment at which it was written, not by its name: a clock may have been wrong.
+    newest = max((f"{places.FOLDER}/{it}" for it in good), key=lambda it: os.stat(it).st_mtime)
+    age = time.time() - os.stat(newest).st_mtime
+    if age > OLDEST:
+        yield Fault("copy-old", f"the last copy, {newest}, is {age / 3600:.0f} hours old", NOW)
+    if not os.path.exists(f"{newest}/{kept.SUMS}"):
+        yield Fault("copy-bad", f"{newest} has no {kept.SUMS}", NOW)

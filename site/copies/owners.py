@@ -1,0 +1,81 @@
+"""How root reads and writes in a folder that another user may change: as that user, by pipes, or by
+the handle of a file that is that user's. So no name there leads root elsewhere, at any moment.
+"""
+
+import contextlib
+import os
+import pwd
+import shutil
+import subprocess
+
+from radacctd_site.core import Failed
+from radacctl import files
+
+PROGRAM = os.path.join(os.path.dirname(os.path.realpath(__file__)), "as_owner.py")
+PATH = {"PATH": "/usr/bin:/bin", "LC_ALL": "C.UTF-8"}
+NOBODY = "nobody"
+
+
+def number(user):
+    try:
+        return pwd.getpwnam(user).pw_uid
+    except KeyError:
+        raise Failed(f"there is no user {user}: is radacctd installed?") from None
+
+
+@contextlib.contextmanager
+def running(user, *words):
+    """as_owner.py, as a user with no group but its own. Failed says what it said."""
+    number(user)
+    how = {"user": user, "group": pwd.getpwnam(user).pw_gid, "extra_groups": [], "env": PATH}
+    with open(PROGRAM, encoding="utf-8") as file:
+        text = file.read()
+    pipe = subprocess.PIPE
+    with subprocess.Popen(["/usr/bin/python3", "-I", "-c", text, *words], cwd="/", stdin=pipe,
+                          stdout=pipe, stderr=pipe, start_new_session=True, **how) as it:
+        with contextlib.suppress(BrokenPipeError):
+            yield it
+        with contextlib.suppress(BrokenPipeError):
+            it.stdin.close()
+        said = it.stderr.read().decode("utf-8", "replace").strip().splitlines()
+    if it.returncode:
+        raise Failed(f"{' '.join(words[:2])} as {user}: {said[-1] if said else it.returncode}")
+
+
+def read_store(path, user, to):
+    """Writes a store into a file of root's while its user writes on."""
+    with open(to, "xb") as file, running(user, "print", path) as it:
+        shutil.copyfileobj(it.stdout, file)
+
+
+def check_store(path):
+    """Whether SQLite finds a store sound, asked by a user who has nothing."""
+    with open(path, "rb") as file, running(NOBODY, "check") as it:
+        shutil.copyfileobj(file, it.stdin)
+
+
+def put(path, user, date, parts, rights):
+    """Puts files into place, by their endings; what was there is PATH.before-DATE."""
+    words = [f"{end}:{os.stat(it).st_size}" for end, it in parts.items()]
+    with running(user, "put", path, date, *words) as it:
+        for source in parts.values():
+            with open(source, "rb") as file:
+                shutil.copyfileobj(file, it.stdin)
+    for end in parts:
+        give(path + end, user, *rights)
+
+
+def give(path, user, group, mode):
+    """Gives a user's file its group and mode, by its handle."""
+    with opened(path, user) as file:
+        os.fchown(file.fileno(), -1, group)
+        os.fchmod(file.fileno(), mode)
+
+
+@contextlib.contextmanager
+def opened(path, user):
+    """A file of a user's. A link, a pipe, another user's file or a second name of one is refused."""
+    with files.opened(path) as (file, status):
+        if status.st_uid != number(user) or status.st_nlink != 1:
+            raise Failed(f"{path} is not a file of {user} alone")
+        yield file

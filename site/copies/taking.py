@@ -1,0 +1,198 @@
+"""Makes a copy of the site under another name, checks it, and gives it its own."""
+
+import fcntl
+import glob
+import grp
+import gzip
+import json
+import os
+import pwd
+import shutil
+import stat
+import subprocess
+import time
+
+from radacctd_site.core import Failed
+from radacctd_site.copies import book, kept, owners, places
+from radacctl import files, postgres, site
+from radacctl.doctor import look
+
+NEW, AWAY = f"{places.FOLDER}/.new", f"{places.FOLDER}/away"
+OLD = ".old"
+# Whose keys of age may read the copy that leaves the machine.
+READERS = "/etc/radacctd-copies.recipients"
+
+
+def rights(status):
+    """Owner, group and mode, by names: another machine has other numbers."""
+    owner, group = pwd.getpwuid(status.st_uid).pw_name, grp.getgrgid(status.st_gid).gr_name
+    return [owner, group, stat.S_IMODE(status.st_mode)]
+
+
+def take_roots(folder):
+    """Copies root's places. No link is followed, and a folder that another user may write fails."""
+    found = {"files": {}, "folders": {}, "links": {}}
+    for path in places.roots():
+        with files.opened_folder(os.path.dirname(path)) as above:
+            take(above, os.path.basename(path), path, f"{folder}/{kept.FILES}{path}", found)
+    return found
+
+
+def take(above, name, path, to, found):
+    status = os.stat(name, dir_fd=above, follow_symlinks=False)
+    os.makedirs(os.path.dirname(to), exist_ok=True)
+    if stat.S_ISLNK(status.st_mode):
+        found["links"][path] = os.readlink(name, dir_fd=above)
+    elif stat.S_ISDIR(status.st_mode):
+        with files.handle_of(name, files.FOLDER, above) as inner:
+            found["folders"][path] = rights(root_only(path, os.fstat(inner)))
+            os.makedirs(to, exist_ok=True)
+            for it in sorted(os.listdir(inner)):
+                if "~" not in it:
+                    take(inner, it, f"{path}/{it}", f"{to}/{it}", found)
+    elif stat.S_ISREG(status.st_mode):
+        with files.regular(above, name) as (file, it), open(to, "xb") as new:
+            found["files"][path] = rights(it)
+            shutil.copyfileobj(file, new)
+
+
+def root_only(path, status):
+    if status.st_uid != 0 or status.st_mode & 0o022:
+        raise Failed(f"others than root may write in {path}: chown root and chmod go-w it")
+    return status
+
+
+def dump_sql():
+    """FreeRADIUS' users, if they are in PostgreSQL: why the copy has none of this night, or None."""
+    settings = postgres.settings()
+    if not settings:
+        return None
+    new = f"{site.DUMP}.new"
+    os.makedirs(os.path.dirname(new), mode=0o700, exist_ok=True)
+    try:
+        files.remove(new)
+        with postgres.connection(settings) as (begin, options):
+            done = look.ran([*begin, "pg_dump", "-w", *options, "-f", new], 3600)
+        if done.returncode:
+            raise OSError(done.stderr.strip()[-200:])
+        os.rename(new, site.DUMP)
+    except OSError as why:
+        files.remove(new)
+        return f"FreeRADIUS' database is in the copy as an older night had it: {why}"
+
+
+def make(taken):
+    """Makes the copy under its first name. Returns for how long the server stood still."""
+    shutil.rmtree(NEW, ignore_errors=True)
+    os.mkdir(NEW, 0o700)
+    seconds = book.copy(NEW)
+    found = {"taken": taken, "host": os.uname().nodename, "stores": {}}
+    for path, (user, _) in places.STORES.items():
+        if os.path.exists(path):
+            to = f"{NEW}/{kept.FILES}{path}"
+            os.makedirs(os.path.dirname(to), exist_ok=True)
+            owners.read_store(path, user, to)
+            found["stores"][path] = rights(os.stat(path, follow_symlinks=False))
+    found |= take_roots(NEW)
+    with open(f"{NEW}/{kept.LIST}", "x", encoding="utf-8") as file:
+        json.dump(found, file, indent=1)
+    kept.seal(NEW)
+    return seconds
+
+
+def rename(path, new):
+    os.rename(path, new)
+    files.sync_folder(places.FOLDER)
+
+
+def export(folder, name):
+    """Writes what reports compare: the book's sessions, balances and vouchers on that day."""
+    new = f"{places.EXPORTS}/.new"
+    shutil.rmtree(new, ignore_errors=True)
+    os.makedirs(new, 0o700)
+    with kept.looked_at(folder) as words:
+        for what in ("sessions", "balances", "topups"):
+            with gzip.open(f"{new}/{what}.csv.gz", "wb") as file, subprocess.Popen(
+                    [site.part("radacctd"), "export", what, *words],
+                    stdout=subprocess.PIPE) as it:
+                shutil.copyfileobj(it.stdout, file)
+            if it.returncode:
+                raise Failed(f"the copy is sound, but its {what} cannot be exported")
+    files.make(f"{new}/taken", f"{int(os.stat(folder).st_mtime)}\n".encode())
+    os.rename(new, f"{places.EXPORTS}/{name}")
+
+
+def send_off(path):
+    """Encrypts the copy for whoever takes it elsewhere: AWAY has the newest one alone."""
+    if not os.path.exists(READERS):
+        return
+    shutil.rmtree(AWAY, ignore_errors=True)
+    os.mkdir(AWAY, 0o700)
+    name = os.path.basename(path)
+    with subprocess.Popen(["tar", "-C", places.FOLDER, "-c", name],
+                          stdout=subprocess.PIPE) as tar:
+        done = subprocess.run(["age", "-R", READERS, "-o", f"{AWAY}/.new"], stdin=tar.stdout)
+    if tar.returncode or done.returncode:
+        raise Failed(f"{path} is there, but could not be encrypted for {READERS}")
+    os.rename(f"{AWAY}/.new", f"{AWAY}/{name}.tar.age")
+
+
+def remove_old():
+    """Each one loses its name first: half a copy is never taken for one."""
+    exported = os.listdir(places.EXPORTS)
+    old = [f"{places.FOLDER}/{it}" for it in places.names()[:-places.NIGHTS]]
+    old += [f"{places.EXPORTS}/{it}" for it in sorted(exported)[:-places.EXPORTED_DAYS]]
+    for path in old:
+        rename(path, f"{places.FOLDER}/{OLD}")
+        shutil.rmtree(f"{places.FOLDER}/{OLD}")
+        print(f"removed {path}")
+
+
+def free_name(taken):
+    """The day's; a second one of a day has its time, too."""
+    name = time.strftime("%F", time.localtime(taken))
+    is_there = os.path.exists(f"{places.FOLDER}/site-{name}")
+    return time.strftime("%F.%H%M%S", time.localtime(taken)) if is_there else name
+
+
+def checked(name):
+    """Gives the copy its name once it is known to be sound. One that is not is kept apart, and then
+    no older one goes.
+    """
+    try:
+        kept.check(NEW)
+    except kept.Unsound as why:
+        for it in places.names(places.REFUSED):
+            shutil.rmtree(f"{places.FOLDER}/{it}")
+        path = f"{places.FOLDER}/{places.REFUSED}site-{name}"
+        rename(NEW, path)
+        raise Failed(f"{why}. It is {path}; no older copy was removed") from None
+    path = f"{places.FOLDER}/site-{name}"
+    rename(NEW, path)
+    return path
+
+
+def night():
+    """All of a night, one at a time."""
+    os.umask(0o077)
+    os.makedirs(places.EXPORTS, exist_ok=True)
+    lock = files.open_lock(f"{places.FOLDER}/.lock")
+    fcntl.flock(lock, fcntl.LOCK_EX)
+    # What a killed run left.
+    for it in (OLD, *glob.glob(f"{kept.LOOK}*", root_dir=places.FOLDER)):
+        shutil.rmtree(f"{places.FOLDER}/{it}", ignore_errors=True)
+    try:
+        taken = int(time.time())
+        name, lacks = free_name(taken), dump_sql()
+        seconds = make(taken)
+        path = checked(name)
+        export(path, name)
+        remove_old()
+        send_off(path)
+    finally:
+        shutil.rmtree(NEW, ignore_errors=True)
+        os.close(lock)
+    stood = "the server did not run" if seconds is None else f"{seconds:.1f} s without the server"
+    print(f"{path} is a sound copy: {stood}")
+    if lacks:
+        raise Failed(lacks)

@@ -1,0 +1,390 @@
+"""A copy is made, checked and put back, also while the users of its folders put links into them."""
+
+import contextlib
+import io
+import json
+import os
+import pwd
+import shutil
+import sqlite3
+import stat
+import subprocess
+import sys
+import tempfile
+import time
+import unittest
+from unittest import mock
+
+from radacctl import postgres, site
+from radacctl.commands import setup
+from radacctl.doctor import look
+from radacctl.setup import alone, steps
+from radacctd_site.core import Failed, places as of_core
+from radacctd_site.copies.kept import sum_of
+from radacctd_site.copies import book, kept, looks, owners, places, restoring, taking
+
+# Two users of Debian's who have nothing, in the place of radacctd's.
+USER, PAGES = "games", "man"
+# What stands for the program: a book that begins with BAD is not sound.
+PROGRAM = """#!/bin/sh
+for it; do case $it in */book) book=$it ;; esac; done
+if head -c 3 "$book" | grep -q BAD; then echo "db: Unbalanced" >&2; exit 3; fi
+echo "client,session"
+echo grown >>"$book"
+"""
+# What a user does in a folder that is theirs: links to a file of root's in the place of files.
+RACE = """
+import os, sys
+folder, target, *names = sys.argv[1:]
+while True:
+    for name in names:
+        path = os.path.join(folder, name)
+        try:
+            os.link(path, path + ".was")
+            os.symlink(target, path + ".link")
+            os.rename(path + ".link", path)
+            os.rename(path + ".was", path)
+        except OSError:
+            pass
+"""
+
+
+def written(path, text, user="root", mode=0o600):
+    with open(path, "w") as file:
+        file.write(text)
+    shutil.chown(path, user, pwd.getpwnam(user).pw_gid)
+    os.chmod(path, mode)
+
+
+def text_of(path):
+    with open(path) as file:
+        return file.read()
+
+
+@unittest.skipUnless(os.geteuid() == 0, "only root becomes another user")
+class Site(unittest.TestCase):
+    """A site below a folder, whose server runs as far as the copy sees."""
+
+    def setUp(self):
+        self.stack = contextlib.ExitStack()
+        self.addCleanup(self.stack.close)
+        self.top = os.path.realpath(self.stack.enter_context(tempfile.TemporaryDirectory()))
+        os.chmod(self.top, 0o711)
+        for name, user in (("etc", "root"), ("copies", "root"), ("state", USER), ("site", PAGES)):
+            os.mkdir(f"{self.top}/{name}", 0o700)
+            shutil.chown(f"{self.top}/{name}", user)
+        self.secret = f"{self.top}/shadow"
+        # As a store, so that SQLite would take it for one, too.
+        with contextlib.closing(sqlite3.connect(self.secret)) as made, made:
+            made.execute("CREATE TABLE own (content)")
+            made.execute("INSERT INTO own VALUES ('content of root''s own file')")
+        os.chmod(self.secret, 0o600)
+        written(f"{self.top}/program", PROGRAM, mode=0o755)
+        self.patch_places()
+        self.calls = []
+        self.fill()
+
+    def patch_places(self):
+        top = self.top
+        self.patch(site, BOOK=f"{top}/state/book", STATE=f"{top}/state", USER=USER)
+        self.patch(places, FOLDER=f"{top}/copies", EXPORTS=f"{top}/copies/exports",
+                   STORES={f"{top}/site/site.db": (PAGES, 0o711)}, ROOTS=[f"{top}/etc/radacctd*"])
+        self.patch(taking, NEW=f"{top}/copies/.new", AWAY=f"{top}/copies/away",
+                   READERS=f"{top}/etc/recipients")
+        self.patch(book, STOPPED=f"{top}/stopped")
+        self.patch(steps, refuse_if_away=lambda: None)
+        self.patch(look, is_active=lambda _: True)
+        part = site.part
+        self.patch(site, part=lambda it: f"{top}/program" if it == "radacctd" else part(it))
+        self.patch(postgres, settings=lambda: {})
+        given = steps.given
+        self.patch(steps, given=lambda words, *more: self.calls.append(words[1:]) if words[0] in (
+            "systemctl", "systemd-sysusers") else given(words, *more))
+
+    def patch(self, module, **found):
+        self.stack.enter_context(mock.patch.multiple(module, **found))
+
+    def fill(self):
+        top = self.top
+        with contextlib.closing(sqlite3.connect(f"{top}/state/book")) as made, made:
+            made.execute("CREATE TABLE price_plan (class BLOB, block INTEGER, unit INTEGER)")
+            made.execute("CREATE TABLE plan_count (class BLOB, mode INTEGER)")
+            made.execute("INSERT INTO price_plan VALUES (X'676F6C64', 5, 1)")
+            made.execute("INSERT INTO plan_count VALUES (X'676F6C64', 0)")
+        self.give(f"{top}/state/book", USER)
+        self.sell(1)
+        written(f"{top}/etc/radacctd.toml", "secret = 1\n", mode=0o640)
+        written(f"{top}/etc/radacctd.toml~before-1", "older\n")
+        os.mkdir(f"{top}/etc/radacctd-front", 0o750)
+        written(f"{top}/etc/radacctd-front/queries", "\udcff".encode(
+            "utf-8", "surrogateescape").decode("latin-1"))
+        os.symlink("queries", f"{top}/etc/radacctd-front/link")
+
+    @staticmethod
+    def give(path, user):
+        shutil.chown(path, user, pwd.getpwnam(user).pw_gid)
+
+    def sell(self, number):
+        """A sale of the pages, which is in the log of their store."""
+        path = f"{self.top}/site/site.db"
+        with contextlib.closing(sqlite3.connect(path)) as made, made:
+            made.execute("CREATE TABLE IF NOT EXISTS sale (number INTEGER)")
+            made.execute("INSERT INTO sale VALUES (?)", (number,))
+        self.give(path, PAGES)
+
+    def sales(self):
+        with contextlib.closing(sqlite3.connect(f"{self.top}/site/site.db")) as found:
+            return [it for (it,) in found.execute("SELECT number FROM sale")]
+
+    def night(self):
+        with contextlib.redirect_stdout(io.StringIO()):
+            taking.night()
+        return f"{places.FOLDER}/{places.names()[-1]}"
+
+    @contextlib.contextmanager
+    def racing(self, folder, user, *names):
+        """A user at work in a folder meanwhile."""
+        it = subprocess.Popen([sys.executable, "-c", RACE, folder, self.secret, *names], user=user,
+                              group=pwd.getpwnam(user).pw_gid, extra_groups=[], cwd="/")
+        try:
+            yield
+        finally:
+            it.kill()
+            it.wait()
+
+
+class Taking(Site):
+    def test_a_copy_has_all_and_the_server_stood_still_for_the_book(self):
+        path = self.night()
+        self.assertEqual(self.calls, [["stop", book.UNIT], ["start", book.UNIT]])
+        self.assertFalse(os.path.exists(book.STOPPED))
+        found = kept.check(path)
+        files = f"{path}/{kept.FILES}{self.top}"
+        self.assertEqual(text_of(f"{files}/etc/radacctd.toml"), "secret = 1\n")
+        self.assertFalse(os.path.exists(f"{files}/etc/radacctd.toml~before-1"))
+        self.assertEqual(found["files"][f"{self.top}/etc/radacctd.toml"], ["root", "root", 0o640])
+        self.assertEqual(found["links"], {f"{self.top}/etc/radacctd-front/link": "queries"})
+        self.assertEqual(os.listdir(f"{files}/site"), ["site.db"])
+        said = subprocess.run(["sha256sum", "-c", "--quiet", kept.SUMS], cwd=path)
+        self.assertEqual(said.returncode, 0)
+        modes = {stat.S_IMODE(os.stat(it).st_mode) & 0o077
+                 for it in (path, *(f"{path}/{it}" for it in kept.paths(path)))}
+        self.assertEqual(modes, {0})
+        day = f"{places.EXPORTS}/{os.path.basename(path).removeprefix('site-')}"
+        self.assertEqual(sorted(os.listdir(day)), ["balances.csv.gz", "sessions.csv.gz", "taken",
+                                                   "topups.csv.gz"])
+
+    def test_a_book_that_is_not_sound_is_kept_apart_and_no_older_copy_goes(self):
+        self.night()
+        self.patch(places, NIGHTS=1)
+        real = kept.listed
+        for _ in range(2):
+            with mock.patch.object(look, "run", lambda *_, **__: (3, "db: Unbalanced\n")):
+                self.assertRaisesRegex(Failed, "Unbalanced.*refused-site-", self.night)
+        self.assertIs(real, kept.listed)
+        self.assertEqual(len(places.names()), 1)
+        self.assertEqual(len(places.names(places.REFUSED)), 1)
+        self.assertEqual([it.name for it in looks.look_at(None)], ["copy-bad"])
+
+    def test_the_oldest_go_and_what_a_killed_run_left(self):
+        self.patch(places, NIGHTS=3)
+        for name in (".old/x", ".look-1/x", ".new/x"):
+            os.makedirs(f"{places.FOLDER}/{name}")
+        for day in range(1, 6):
+            os.mkdir(f"{places.FOLDER}/site-2026-01-0{day}")
+        new = os.path.basename(self.night())
+        self.assertEqual(places.names(), ["site-2026-01-04", "site-2026-01-05", new])
+        self.assertEqual(sorted(os.listdir(places.FOLDER)), [".lock", "exports", *places.names()])
+
+    def test_a_server_that_was_stopped_stays_so(self):
+        with mock.patch.object(look, "is_active", lambda _: False):
+            self.night()
+        self.assertEqual(self.calls, [])
+
+    def test_a_full_disk_leaves_no_copy_and_the_server_runs(self):
+        def full(*_):
+            raise OSError(28, "No space left on device")
+
+        for name in ("clone", "marks"):
+            with mock.patch.object(book, name, full):
+                self.assertRaises(OSError, self.night)
+            self.assertEqual(self.calls[-1], ["start", book.UNIT])
+        self.assertEqual(places.names(), [])
+        self.assertFalse(os.path.exists(taking.NEW))
+
+    def test_a_book_that_another_process_has_open(self):
+        with open(site.BOOK, "r+b") as other:
+            lock = book.LOCK.replace(b"\0\0", b"\1\0", 1)
+            book.fcntl.fcntl(other, book.fcntl.F_OFD_SETLK, lock)
+            self.assertRaisesRegex(Failed, "a process has", self.night)
+
+    def test_a_damaged_copy_is_told(self):
+        path = self.night()
+        for name in ("book", kept.LIST):
+            with open(f"{path}/{name}", "r+b") as file:
+                was = file.read(1)
+                file.seek(0)
+                file.write(bytes([was[0] ^ 1]))
+            self.assertRaisesRegex(kept.Unsound, f"{name} is not as it was", kept.check, path)
+            with open(f"{path}/{name}", "r+b") as file:
+                file.write(was)
+        kept.check(path)
+        os.remove(f"{path}/{kept.FILES}{self.top}/etc/radacctd.toml")
+        self.assertRaisesRegex(kept.Unsound, "radacctd.toml", kept.check, path)
+
+    def test_a_store_that_is_damaged(self):
+        with open(f"{self.top}/site/site.db", "r+b") as file:
+            file.seek(4096)
+            file.write(b"\xff" * 4096)
+        self.assertRaisesRegex(Failed, f"as {PAGES}", self.night)
+
+    def test_a_folder_of_another_user_is_not_copied_as_roots(self):
+        os.chmod(f"{self.top}/etc/radacctd-front", 0o777)
+        self.assertRaisesRegex(Failed, "others than root", self.night)
+
+    @unittest.skipUnless(shutil.which("age-keygen"), "Debian's age is missing")
+    def test_what_leaves_the_machine_is_encrypted(self):
+        key = f"{self.top}/key"
+        said = subprocess.run(["age-keygen", "-o", key], capture_output=True, text=True).stderr
+        written(taking.READERS, said.rpartition(": ")[2])
+        path = self.night()
+        [name] = os.listdir(taking.AWAY)
+        self.assertEqual(name, f"{os.path.basename(path)}.tar.age")
+        shell = f"age -d -i {key} {taking.AWAY}/{name} | tar -t"
+        listed = subprocess.run(shell, shell=True, capture_output=True, text=True).stdout
+        self.assertIn(f"{os.path.basename(path)}/book\n", listed)
+
+
+class Attacked(Site):
+    def test_who_owns_a_folder_gets_nothing_of_roots_into_a_copy(self):
+        for folder, *words in (("site", PAGES, "site.db"), ("state", USER, "book", "book-wal")):
+            with self.racing(f"{self.top}/{folder}", *words):
+                for _ in range(20):
+                    self.copy_without_roots()
+
+    def copy_without_roots(self):
+        with contextlib.suppress(Failed, OSError):
+            shutil.rmtree(taking.NEW, ignore_errors=True)
+            taking.make(0)
+        for it in kept.paths(taking.NEW):
+            with open(f"{taking.NEW}/{it}", "rb") as file:
+                self.assertNotIn(b"root's own", file.read(), it)
+
+    def test_nor_does_a_pipe_or_a_second_name(self):
+        path = site.BOOK
+        os.rename(path, f"{path}.was")
+        for make in (os.mkfifo, lambda it: os.link(self.secret, it),
+                     lambda it: os.symlink(self.secret, it)):
+            make(path)
+            self.assertRaises((Failed, OSError), taking.make, 0)
+            os.remove(path)
+            shutil.rmtree(taking.NEW)
+
+    def test_nor_changes_a_restore_a_file_of_roots(self):
+        part = f"{self.top}/part"
+        written(part, "a book")
+        before, content = os.stat(self.secret), sum_of(self.secret)
+        with self.racing(f"{self.top}/state", USER, "book", "book.new", "book-wal"):
+            for number in range(20):
+                with contextlib.suppress(Failed, OSError):
+                    owners.put(site.BOOK, USER, str(number), {"": part, "-wal": part}, (0, 0o644))
+        after = os.stat(self.secret)
+        self.assertEqual(sum_of(self.secret), content)
+        self.assertEqual((after.st_mode, after.st_uid, after.st_ino),
+                         (before.st_mode, before.st_uid, before.st_ino))
+
+
+class Restoring(Site):
+    def setUp(self):
+        super().setUp()
+        self.patch(of_core, USER=PAGES)
+        self.patch(setup, LOCK=f"{self.top}/lock")
+        # A test's folder is below /tmp, in which everyone may write.
+        self.need, self.dates = restoring.need_root_only, []
+        self.patch(restoring, need_root_only=lambda _: None)
+
+    def restore(self, folder, replaces=None):
+        with contextlib.redirect_stdout(io.StringIO()):
+            return restoring.restore(folder, replaces)
+
+    def today(self):
+        return time.strftime("%F")
+
+    def test_all_is_as_it_was_and_what_was_there_is_kept(self):
+        path = self.night()
+        was = {it: open(f"{self.top}/{it}", "rb").read() for it in ("state/book",
+                                                                   "etc/radacctd-front/queries")}
+        self.sell(2)
+        written(f"{self.top}/state/book", "another", USER)
+        written(f"{self.top}/state/book-wal", "its log", USER)
+        written(f"{self.top}/etc/radacctd.toml", "other\n", mode=0o600)
+        self.restore(path, self.today())
+        for it, octets in was.items():
+            with open(f"{self.top}/{it}", "rb") as file:
+                self.assertEqual(file.read(), octets, it)
+        self.assertEqual(self.sales(), [1])
+        owner = pwd.getpwuid(os.stat(site.BOOK).st_uid).pw_name
+        self.assertEqual((owner, os.listdir(f"{self.top}/etc").count("radacctd.toml")), (USER, 1))
+        self.assertEqual(stat.S_IMODE(os.stat(f"{self.top}/etc/radacctd.toml").st_mode), 0o640)
+        kept_there = sorted(it for it in os.listdir(f"{self.top}/state") if "before" in it)
+        self.assertEqual(len(kept_there), 2)
+        self.assertEqual([text_of(f"{self.top}/state/{it}") for it in kept_there],
+                         ["another", "its log"])
+        self.assertFalse(os.path.exists(f"{site.BOOK}-wal"))
+
+    def test_a_book_that_is_there_is_replaced_by_its_date_alone(self):
+        path = self.night()
+        for given in (None, "2020-01-01"):
+            self.assertRaisesRegex(Failed, f"--replaces {self.today()}", self.restore, path, given)
+        os.remove(site.BOOK)
+        self.assertRaisesRegex(Failed, "leave --replaces away", self.restore, path, self.today())
+        self.restore(path)
+        self.assertTrue(os.path.exists(site.BOOK))
+
+    def test_the_book_alone(self):
+        path = self.night()
+        self.sell(2)
+        written(site.BOOK, "another", USER)
+        self.calls.clear()
+        with contextlib.redirect_stdout(io.StringIO()):
+            self.assertEqual(restoring.restore(path, self.today(), is_book_alone=True), 0)
+        self.assertEqual((self.sales(), self.calls), ([1, 2], [["stop", "radacctd.service"]]))
+        with open(site.BOOK, "rb") as now, open(f"{path}/book", "rb") as was:
+            self.assertEqual(now.read(), was.read())
+
+    def test_a_damaged_copy_changes_nothing(self):
+        path = self.night()
+        with open(f"{path}/book", "ab") as file:
+            file.write(b"x")
+        self.calls.clear()
+        self.assertRaises(kept.Unsound, self.restore, path, self.today())
+        self.assertEqual(self.calls, [])
+
+    def test_a_copy_that_another_user_may_change(self):
+        path = self.night()
+        self.assertRaisesRegex(Failed, "another user may change it", self.need, path)
+
+    def test_the_set_up_does_the_rest_by_its_own_answers(self):
+        plan = [{"class": "default", "block": 1000, "unit": 5}]
+        self.patch(restoring, ANSWERS=f"{self.top}/etc/radacctd-answers.json")
+        written(restoring.ANSWERS, json.dumps({"plan": plan}))
+        path = self.night()
+        done = mock.Mock(return_value=0)
+        with mock.patch.object(setup, "do", done), mock.patch.object(
+                alone, "packages", lambda _: mock.Mock(is_done=lambda: True)):
+            self.assertEqual(self.restore(path, self.today()), 0)
+        words, wanted = done.call_args.args
+        self.assertEqual((words.yes, wanted.plans[0]["class"]), (True, "default"))
+
+
+class Looks(Site):
+    def test_an_old_copy_or_none_is_named(self):
+        self.assertEqual([it.name for it in looks.look_at(None)], ["copy-old"])
+        path = self.night()
+        self.assertEqual(list(looks.look_at(None)), [])
+        os.utime(path, (0, time.time() - 2 * 86400))
+        self.assertEqual([it.name for it in looks.look_at(None)], ["copy-old"])
+
+
+if __name__ == "__main__":
+    unittest.main()
