@@ -187,7 +187,7 @@ class Lab:
     def certificates(self):
         certs = os.path.join(self.raddb, "certs")
         os.makedirs(certs)
-        made = os.path.join("/tmp/front", "certs")
+        made = os.path.join("/tmp/front", "authority")
         if not os.path.isdir(made):
             os.makedirs(made + ".new", exist_ok=True)
             run = lambda *it: subprocess.run(
@@ -207,7 +207,7 @@ class Lab:
                 "-days",
                 "365",
             )
-            for name in ("server", "al", "stranger"):
+            for name in ("server", "al", "stranger", ""):
                 run(
                     "req",
                     *key,
@@ -216,7 +216,7 @@ class Lab:
                     "-out",
                     name + ".csr",
                     "-subj",
-                    f"/CN={name}",
+                    f"/CN={name}" if name else "/",
                 )
                 run(
                     "x509",
@@ -444,7 +444,7 @@ class Lab:
             lines.append(f' password="{password}"')
         if phase2:
             lines.append(f' phase2="{phase2}"')
-        if cert:
+        if cert is not None:
             lines += [
                 f' client_cert="{self.certs}/{cert}.pem"',
                 f' private_key="{self.certs}/{cert}.key"',

@@ -113,6 +113,8 @@ class Proved(OneLab):
         self.assertEqual(
             stamps(it.eap("TLS", "al", password=None, cert="stranger")), "up;;stranger"
         )
+        # One without a name is nobody's.
+        self.assertEqual(stamps(it.eap("TLS", "al", password=None, cert="")), "FAILURE")
         it.users.execute("DELETE FROM radcheck WHERE username = 'stranger'")
         it.users.execute("DELETE FROM radusergroup WHERE username = 'stranger'")
         self.assertEqual(stamps(it.eap("TLS", "al", password=None, cert="stranger")), "FAILURE")
