@@ -7,7 +7,9 @@ has to guard it.
 """
 
 import collections
+import contextlib
 import datetime
+import sqlite3
 import time
 
 from radacctd_site.core import desk as desks
@@ -45,10 +47,12 @@ def ask(book, act):
 
 
 def send(db, book, act):
-    """One request for an act that is on the disk: what the book said of it."""
+    """One request for an act that is on the disk: what the book said of it. If that cannot be
+    written, the act is sent again: no page may say then that nothing was sent.
+    """
     found = ask(book, act)
     if found in FINAL:
-        with db:
+        with contextlib.suppress(sqlite3.Error), db:
             db.execute("UPDATE act SET answer = ?, answered = ? WHERE number = ? AND account = ? "
                        "AND sum = ? AND answer IS NULL", (found, int(time.time()), *act[:3]))
     return found

@@ -36,11 +36,6 @@ class WrongKey(Failed):
     """Why a file has no key that may be used. It has no octet of the file."""
 
 
-def usual():
-    """Where this machine sells unless it is told where."""
-    return HERE
-
-
 def place(text):
     """An address and a port, as an argument has them."""
     host, mark, port = text.rpartition(":")

@@ -21,13 +21,13 @@ def book():
     where, is_handed = os.environ.get("RADACCTD_DESK"), "CREDENTIALS_DIRECTORY" in os.environ
     [key] = desk.keys_in(KEY, 1, lambda _: is_handed)
     secret = desk.secret_in(SECRET, lambda _: is_handed) if os.path.exists(SECRET) else b""
-    return desk.Desk(desk.place(where) if where else desk.usual(), key, secret.rstrip(b"\r\n"))
+    return desk.Desk(desk.place(where) if where else desk.HERE, key, secret.rstrip(b"\r\n"))
 
 
 def readers():
     """Where guests' questions go."""
     where = os.environ.get("RADACCTD_DESK")
-    return [desk.place(where)] if where else [desk.usual()]
+    return [desk.place(where)] if where else [desk.HERE]
 
 
 def settings():

@@ -68,6 +68,16 @@ class Acts(Site):
         self.assertRaises(sqlite3.Error, acts.do, self.db, self.book, ACT)
         self.assertEqual(self.book.asked, [])
 
+    def test_what_the_book_took_and_site_db_could_not_note_is_sent_again(self):
+        def credit(*it):
+            self.db.execute("PRAGMA query_only = ON")
+            return taken(*it)
+
+        taken, self.book.credit = self.book.credit, credit
+        self.assertEqual(acts.do(self.db, self.book, ACT), desk.NEW)
+        self.db.execute("PRAGMA query_only = OFF")
+        self.assertEqual((acts.waiting(self.db), acts.again(self.db, self.book)), (1, 1))
+
     def test_nothing_is_sent_if_site_db_is_full(self):
         pages = self.db.execute("PRAGMA page_count").fetchone()[0]
         self.db.execute(f"PRAGMA max_page_count = {pages}")
