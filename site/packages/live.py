@@ -92,6 +92,8 @@ class Site:
         self.front = front
         self.service = Service(front.path("service"), front.desk, "cash-key-00000001")
         self.service.write("radacctd-codes.key", CODE_KEY + "\n")
+        self.service.write("balances.csv", "account,balance,overrun\n")
+        self.service.env["RADACCTD_BALANCES"] = front.path("service", "balances.csv")
         self.service.run("person", "put", "anna", input=PASSWORD + "\n", stdin=None)
         self.service.start()
         self.browser = self.logged_in()

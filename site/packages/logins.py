@@ -55,7 +55,7 @@ def make(db, book, made):
     """Makes logins, and sells each by one credit. One that is there already stays as it is."""
     taken = users.names()[0]
     if any(it.name == it.account for it in made):
-        taken |= {names.shown(it) for it in accounts.known()[0]}
+        taken |= {names.shown(it) for it in accounts.balances()[0]}
     with db:
         db.execute("BEGIN IMMEDIATE")
         for it in made:
@@ -64,6 +64,8 @@ def make(db, book, made):
                 acts.begin(db, [act_of(it)] if it.sum else [])
     for it in made:
         row = db.execute("SELECT * FROM login WHERE number = ?", (it.number,)).fetchone()
+        if (row["account"], row["package"]) != (it.account, it.package):
+            raise Failed(f"this form sold {row['account']} before, and nothing now: load it again")
         if row["sum"] and acts.send(db, book, act_of(row)) in (desk.AWAY, desk.NO_KEY):
             break
     try:

@@ -44,6 +44,7 @@ class Packages(Site):
         self.users.executescript(TABLES)
         self.enterContext(mock.patch.object(logins, "key", lambda: KEY))
         self.list_plans({"gold": corrections.WANTED, "free": corrections.WANTED})
+        self.write_balances()
         self.put("week", "--plan", "gold", "--sum", "9.00", "--devices", "2", "--valid", "7d")
         self.put("open", "--plan", "free", "--speed", "2M/1M")
 
@@ -145,6 +146,7 @@ class Selling(Packages):
     def test_a_code_is_sold_once_and_nobody_reads_it_in_the_tables(self):
         one = self.make(code=CODE)
         self.make(code=CODE)
+        self.assertRaisesRegex(Failed, "before, and nothing now", self.make, "open", code=CODE)
         self.assertEqual(self.book.credits, {f"P-{digest(CODE)[:24].upper()}": (one.account, 900)})
         self.assertEqual(self.rows("radcheck"), {(digest(CODE), "Front-Payer", ":=", one.account)})
         self.assertEqual(self.rows("radusergroup"), {(digest(CODE), "week", 1)})
@@ -164,6 +166,8 @@ class Selling(Packages):
             file.write("account,balance,overrun\nro%C3%B3m 1,500,0\n")
         with mock.patch.object(accounts, "BALANCES", path):
             self.assertRaisesRegex(Failed, "was", self.make, name="roóm 1")
+        with mock.patch.object(accounts, "BALANCES", f"{self.folder}/none.csv"):
+            self.assertRaisesRegex(Failed, "none.csv", self.make, name="bo")
         self.assertEqual(len(self.book.credits), 1)
         for name in (CODE, "a'b", "a%b", "a/b", " a", "", "ä\n"):
             self.assertIsNotNone(logins.why_not(name), name)
