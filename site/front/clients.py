@@ -34,7 +34,7 @@ client {name} {{
 	quota = {quota}, login = {login}, pays = yes
 }}
 """
-BLOCK = re.compile(r"(?ms)^client[ \t]+(\S+)[ \t]*\{$(.*?)^\}")
+BLOCK = re.compile(r'(?ms)^[ \t]*client\s+"?([^\s"{]+)"?\s*\{(.*?)^[ \t]*\}')
 CUT = """
 [[access_server]]
 client = "front/{device}"
@@ -59,10 +59,14 @@ def written(old, answers):
     """clients.conf with those that it lacks. Of one that is there nothing is changed."""
     text = CLIENTS if old is None else old
     there = dict(BLOCK.findall(text))
+    named = {value(block, "ipaddr"): name for name, block in there.items()}
     for it in [*answers.access_servers, TEST]:
         if it["name"] in there:
             refuse_other(it, value(there[it["name"]], "ipaddr"))
             continue
+        if it["address"] in named:
+            raise steps.Failed(f"clients.conf has the address of {it['name']} as "
+                               f"{named[it['address']]}: change one of both")
         if ":" in it["address"] and not os.path.exists(f"{RADDB}/site.conf"):
             raise steps.Failed(f"{it['name']} has an IPv6 address: first write a `listen` for it "
                                f"into {RADDB}/site.conf")

@@ -35,14 +35,17 @@ class Clients(unittest.TestCase):
     def test_what_a_site_wrote_stays(self):
         text = clients.written(None, wanted(LOBBY))
         mine = text.replace("pays = yes", "pays = no") + "\n# mine\n"
+        mine = mine.replace("client lobby {", '\tclient "lobby" { # by hand')
         more = clients.written(mine, wanted(LOBBY, {"name": "roof", "address": "10.0.1.0/24"}))
         self.assertTrue(more.startswith(mine))
         self.assertIn("\tipaddr = 10.0.1.0/24\n", more)
 
     def test_another_address_of_a_client_is_told(self):
         text = clients.written(None, wanted(LOBBY))
-        self.assertRaisesRegex(steps.Failed, "10.0.0.1, not 10.0.0.2", clients.written, text,
-                               wanted({**LOBBY, "address": "10.0.0.2"}))
+        for why, other in (("10.0.0.1, not 10.0.0.2", {"address": "10.0.0.2"}),
+                           ("of attic as lobby", {"name": "attic"})):
+            self.assertRaisesRegex(steps.Failed, why, clients.written, text,
+                                   wanted({**LOBBY, **other}))
 
     def test_an_ipv6_address_needs_a_listener(self):
         one = wanted({**LOBBY, "address": "fd00::1"})
