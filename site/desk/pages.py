@@ -157,9 +157,9 @@ def ledger(visit):
     try:
         first, last = (datetime.date.fromisoformat(visit.request.query.get(it, ""))
                        for it in ("first", "last"))
-    except ValueError:
+        rows = acts.of_days(visit.db, first, last, None if visit.role == OPERATOR else visit.name)
+    except (ValueError, OverflowError):
         return visit.say(visit.text("A day is as 2026-12-31."), 422)
-    rows = acts.of_days(visit.db, first, last, None if visit.role == OPERATOR else visit.name)
     bottle.response.headers.update({
         **web.HEADERS, "Content-Type": "text/csv; charset=utf-8",
         "Content-Disposition": f'attachment; filename="sales-{first}-{last}.csv"'})

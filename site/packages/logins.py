@@ -45,9 +45,9 @@ def drawn(digest_key, package, code, who, name="", sheet=""):
 
 
 def why_not(name):
-    """Why nobody may log in by a name, or None."""
-    if not packages.PLAIN.fullmatch(name):
-        return "it has other characters than letters, digits, spaces and . _ @ -"
+    """Why nobody may log in by a name, or None. A stamp has three octets for most of the name's."""
+    if not packages.PLAIN.fullmatch(name) or len(name.encode()) > 60:
+        return "it has more than 60 octets, or others than letters, digits, spaces and . _ @ -"
     return "it is a code" if codes.read(name) else names.why_not(name)
 
 

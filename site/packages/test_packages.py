@@ -169,7 +169,7 @@ class Selling(Packages):
         with mock.patch.object(accounts, "BALANCES", f"{self.folder}/none.csv"):
             self.assertRaisesRegex(Failed, "none.csv", self.make, name="bo")
         self.assertEqual(len(self.book.credits), 1)
-        for name in (CODE, "a'b", "a%b", "a/b", " a", "", "ä\n"):
+        for name in (CODE, "a'b", "a%b", "a/b", " a", "", "ä\n", "я" * 31):
             self.assertIsNotNone(logins.why_not(name), name)
 
     def test_it_logs_in_once_the_book_has_the_sum(self):
