@@ -12,10 +12,8 @@ COUNTS = "/var/lib/radacctd-counts/radacctd.prom"
 BACKUPS = "/var/backups/radacctd"
 DEFAULTS = "/etc/default/radacctd"
 # What a machine of a pair has.
-# The journals of root's tools, the secret of the client that takes debits, and FreeRADIUS' database
-# as the last night found it.
+# The journals of root's tools, and the secret of the client that takes debits.
 BOOKS, BOOKS_SECRET = "/var/lib/radacctd-books", "/etc/radacctd-books.secret"
-DUMP = "/var/lib/radacctd-sql/radius.sql"
 RADDB = "/etc/freeradius/3.0"
 RADACCT = "/var/log/freeradius/radacct"
 # The users and groups of the service, of FreeRADIUS, of nginx, and of who reads balances.

@@ -13,7 +13,7 @@ from radacctl import plans, site
 from radacctl.doctor import look
 from radacctl.setup import alone, steps
 
-LIST, SUMS, FILES = "copy.json", "SHA256SUMS", "files"
+LIST, SUMS, FILES, DUMP = "copy.json", "SHA256SUMS", "files", "radius.sql"
 # The folder of a book that is looked at begins so.
 LOOK = ".look-"
 LINE = re.compile(r"([0-9a-f]{64})  (.+)")

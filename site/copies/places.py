@@ -35,7 +35,6 @@ ROOTS = [
     "/etc/letsencrypt",
     alone.NOTES,
     site.BOOKS,
-    os.path.dirname(site.DUMP),
 ]
 
 

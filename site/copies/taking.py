@@ -63,26 +63,24 @@ def root_only(path, status):
 
 
 def dump_sql():
-    """FreeRADIUS' users, if they are in PostgreSQL: why the copy has none of this night, or None."""
-    settings = postgres.settings()
+    """FreeRADIUS' users, if they are in PostgreSQL: why the copy has none, or None."""
+    settings, path = postgres.settings(), f"{NEW}/{kept.DUMP}"
     if not settings:
         return None
-    new = f"{site.DUMP}.new"
-    os.makedirs(os.path.dirname(new), mode=0o700, exist_ok=True)
     try:
-        files.remove(new)
         with postgres.connection(settings) as (begin, options):
-            done = look.ran([*begin, "pg_dump", "-w", *options, "-f", new], 3600)
+            done = look.ran([*begin, "pg_dump", "-w", *options, "-f", path], 3600)
         if done.returncode:
             raise OSError(done.stderr.strip()[-200:])
-        os.rename(new, site.DUMP)
     except OSError as why:
-        files.remove(new)
-        return f"FreeRADIUS' database is in the copy as an older night had it: {why}"
+        files.remove(path)
+        return f"the copy lacks FreeRADIUS' database: {why}"
 
 
 def make(taken):
-    """Makes the copy under its first name. Returns for how long the server stood still."""
+    """Makes the copy under its first name. Returns for how long the server stood still, and what
+    the copy lacks.
+    """
     shutil.rmtree(NEW, ignore_errors=True)
     os.mkdir(NEW, 0o700)
     seconds = book.copy(NEW)
@@ -96,8 +94,9 @@ def make(taken):
     found |= take_roots(NEW)
     with open(f"{NEW}/{kept.LIST}", "x", encoding="utf-8") as file:
         json.dump(found, file, indent=1)
+    lacks = dump_sql()
     kept.seal(NEW)
-    return seconds
+    return seconds, lacks
 
 
 def rename(path, new):
@@ -183,8 +182,8 @@ def night():
         shutil.rmtree(f"{places.FOLDER}/{it}", ignore_errors=True)
     try:
         taken = int(time.time())
-        name, lacks = free_name(taken), dump_sql()
-        seconds = make(taken)
+        name = free_name(taken)
+        seconds, lacks = make(taken)
         path = checked(name)
         export(path, name)
         remove_old()

@@ -238,6 +238,12 @@ class Taking(Site):
             file.write(b"\xff" * 4096)
         self.assertRaisesRegex(Failed, f"as {PAGES}", self.night)
 
+    def test_a_database_that_is_away_fails_the_night_which_has_its_copy(self):
+        self.patch(postgres, settings=lambda: {"dialect": "postgresql"},
+                   connection=lambda _: contextlib.nullcontext((["false"], [])))
+        self.assertRaisesRegex(Failed, "lacks FreeRADIUS' database", self.night)
+        self.assertEqual(len(places.names()), 1)
+
     def test_a_folder_of_another_user_is_not_copied_as_roots(self):
         os.chmod(f"{self.top}/etc/radacctd-front", 0o777)
         self.assertRaisesRegex(Failed, "others than root", self.night)
