@@ -236,6 +236,7 @@ class Exact(OneLab):
         "class": [(CLASS, b"")],
         "class 0": [(CLASS, b"a\0b")],
         "unknown": [(200, b"abc")],
+        "longer than a line of the reader": [(137, bytes(253))] * 10,
         "50%": [],
         'a b/c\\d"e': [],
         "100%{User-Name}": [],
