@@ -9,7 +9,7 @@ import tempfile
 import clean
 import machine
 from served import CLIENT_AND_KEYS, PLANS, ROOT, check
-from service import BALANCES, CONFIG, DEFAULTS, Site, put_config, until
+from service import CONFIG, DEFAULTS, Site, put_config
 
 PAGE = os.path.join(ROOT, "docs", "INSTALL.md")
 SITE = CLIENT_AND_KEYS + PLANS
@@ -61,14 +61,6 @@ def first_start(site):
         run(site.box, command, clean.PLACE)
     begin(site, SITE)
     check("it is served", (site.state(), site.asked()), ("active", 200))
-
-
-def rights(site):
-    """"Users and rights", with a user of FreeRADIUS' name."""
-    site.box.must("useradd -r freerad")
-    run(site.box, commands("Users and rights")[0])
-    read = f"setpriv --reuid freerad --regid freerad --init-groups cat {BALANCES}"
-    check("FreeRADIUS' user reads the balances", until(lambda: not site.box.run(read)[0]), True)
 
 
 def addresses(site):
@@ -128,5 +120,5 @@ def removed(site):
 
 def follow(box):
     site = Site(box)
-    for part in (first_start, rights, addresses, upgraded, restored, removed):
+    for part in (first_start, addresses, upgraded, restored, removed):
         part(site)
