@@ -2,7 +2,7 @@
 
 import re
 
-from claims_lib import figures, followed, hazards, history, made, openers, pictures
+from claims_lib import figures, followed, hazards, history, made, openers
 from claims_lib import promises, reading, style
 from claims_lib.allowed import ALLOWED
 from claims_lib.tree import FOR_TESTS, text_of
@@ -269,5 +269,4 @@ def check(checker):
     hazards.check(checker)
     if history.check_rows(checker):
         made.check(checker)
-        pictures.check(checker)
         history.check(checker)
