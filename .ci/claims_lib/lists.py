@@ -3,7 +3,7 @@
 import re
 
 from claims_lib import figures, followed, hazards, history, made, openers
-from claims_lib import promises, reading, style
+from claims_lib import promises, reading, style, tidy
 from claims_lib.allowed import ALLOWED
 from claims_lib.tree import FOR_TESTS, text_of
 
@@ -267,6 +267,7 @@ def check(checker):
     promises.check(checker)
     followed.check(checker)
     hazards.check(checker)
+    tidy.check(checker)
     if history.check_rows(checker):
         made.check(checker)
         history.check(checker)

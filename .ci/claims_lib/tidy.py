@@ -1,0 +1,90 @@
+"""How much in crates/ is too long: counts that only fall.
+
+tidy.csv has the most of each: more than 7 parameters of functions and definitions, not of lemmas;
+bodies above 40 lines, also of lemmas; clauses above 10 lines; lines above 100 columns.
+"""
+
+import csv
+import os
+import re
+
+from claims_lib.tree import ROOT, text_of
+
+LIMITS, PARAMETERS, BODY, CLAUSE, COLUMNS = ".ci/claims_lib/tidy.csv", 7, 40, 10, 100
+FUNCTION = re.compile(r"^( *)(?:pub(?:\([a-z]+\))? )?(?:const )?fn \w+(?:<[^(]*>)?\(", re.M)
+CONTRACT = re.compile(r"^ *(?:ensures|requires)(?: \w+)? \{", re.M)
+DEFINED = (r"^( *)(?:pub )?((?:abbrev|unfoldable|record|data) (?!\{))*"
+           r"(?:pub )?(?(2)\S|[^\s(){}:]+ :\s)")
+
+
+def to_its_end(text, opening, closing):
+    """What follows an opened bracket up to the one that closes it, without what inner ones hold."""
+    depth, kept = 1, ""
+    for letter in text.replace("->", "  "):
+        depth += (letter in opening) - (letter in closing)
+        if not depth:
+            break
+        kept += letter if depth == 1 or letter == "\n" else ""
+    return kept
+
+
+def in_code(text):
+    """What is too long in a source, by its place."""
+    heads = list(FUNCTION.finditer(text))
+    for head, after in zip(heads, [*heads[1:], None]):
+        whole = text[head.end() : after.start() if after else len(text)]
+        if len(re.findall(r"[^\s,][^,]*", to_its_end(whole, "([{<", ")]}>"))) > PARAMETERS:
+            yield "parameters", head.start()
+        body = re.search(rf"(?:^{head[1]}| )\{{\n(.*?)^{head[1]}\}}", whole, re.M | re.S)
+        if body and body[1].count("\n") > BODY:
+            yield "bodies", head.start()
+    for head in CONTRACT.finditer(text):
+        if to_its_end(text[head.end() :][:2000], "{", "}").count("\n") >= CLAUSE:
+            yield "clauses", head.start()
+
+
+def in_definitions(text):
+    """What is too long in a file of definitions or proofs, by its place."""
+    heads = list(re.finditer(DEFINED, text, re.M))
+    for head, after in zip(heads, [*heads[1:], None]):
+        whole = text[head.start() : after.start() if after else len(text)]
+        first, *lines = [it for it in whole.split("\n") if it.strip(" -")]
+        size = [*(it.startswith(head[1] + " ") for it in lines), False].index(False)
+        kind = " ".join([first, *lines[:size]]).split(" where")[0]
+        while re.search(r"[({][^(){}:]*[)}]", kind):
+            kind = re.sub(r"[({][^(){}:]*[)}]", "", kind)
+        count = sum(len(it.split()) for it in re.findall(r"[({]([^(){}:]+) : ", kind))
+        # An arrow after no named parameter is of one that has no name. A lemma's are its premises.
+        if head[2] and count + len(re.findall(r"(?<![)}]) →", kind)) > PARAMETERS:
+            yield "parameters", head.start()
+        if len(lines) - size > BODY:
+            yield "bodies", head.start()
+
+
+def counts_of(tree):
+    """The most of each kind, and the places that are too long now."""
+    with open(os.path.join(ROOT, LIMITS), encoding="ascii", newline="") as file:
+        most = {row["kind"]: int(row["most"]) for row in csv.DictReader(file)}
+    found = {kind: [] for kind in most}
+    for path in (it for it in tree.files if re.match(r"crates/.*\.(?:rt|antt)$", it)):
+        text = text_of(path)
+        for kind, at in in_code(text) if path.endswith(".rt") else in_definitions(text):
+            found[kind].append((path, text.count("\n", 0, at) + 1))
+        sizes = enumerate(map(len, text.split("\n")), 1)
+        found["lines"] += [(path, line) for line, size in sizes if size > COLUMNS]
+    return most, found
+
+
+def check(checker):
+    """No kind has more places than before. If one has, each is listed, the new one among them."""
+    most, found = counts_of(checker.tree)
+    for kind, places in found.items():
+        for checker.page, line in places if len(places) > most[kind] else ():
+            checker.find(line, f"{kind}: {len(places)} are too long, at most {most[kind]} may be")
+
+
+def write(tree):
+    most, found = counts_of(tree)
+    rows = [f"{kind},{min(count, len(found[kind]))}\n" for kind, count in most.items()]
+    with open(os.path.join(ROOT, LIMITS), "w", encoding="ascii") as file:
+        file.writelines(["kind,most\n", *rows])
