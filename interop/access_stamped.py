@@ -1,5 +1,5 @@
 """radacctd as interop/access-servers sends to it where logins are stamped: straight, and passed on
-by FreeRADIUS. What the desk would say of a login is made here, as docs/SEMANTICS.md has it.
+by FreeRADIUS. What the desk would say of a login is made here, as docs/proofs/SEMANTICS.md has it.
 """
 
 import hmac

@@ -2,7 +2,7 @@
 
 An entry is a report, a restart of a client or a voucher. The next one is sent once the last one was
 answered, so the content after each of them is known. It is computed here from the rules of
-docs/FILES.md, and compared with what `radacctd export` writes.
+docs/reference/files.md, and compared with what `radacctd export` writes.
 """
 
 import collections

@@ -1,5 +1,5 @@
-"""The table of the configuration on docs/SITE.md, made of its manual page, and that of the service's
-settings on docs/INSTALL.md, made of their sample.
+"""The tables of docs/reference/settings.md: the configuration, made of its manual page, and the
+service's settings, made of their sample.
 """
 
 import re

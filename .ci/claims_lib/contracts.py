@@ -1,4 +1,4 @@
-"""The page of contracts: each public function with what its comment says and what it ensures.
+"""Public functions: what their comments say, and which of them ensure nothing.
 
 It reads the sources as text: a function is public if it says so, or stands in a public trait. A
 clause has the name that the source gives it, or none.
@@ -82,25 +82,58 @@ def clauses_of(text, found):
     return [it or "result" for it in named]
 
 
-def rows_of(crate):
-    for path in sources_of(crate):
-        name = os.path.basename(path)
-        for owner, function, comment, clauses in functions(text_of(path)):
-            shown = f"{owner}::{function}" if owner else function
-            shown = f"laws::{function}" if name == "laws.rt" else shown
-            said = ", ".join(f"`{it}`" for it in clauses) or "none"
-            yield f"| `{shown}` | [{name}](../{path}) | {first_of(comment)} | {said} |"
-
-
-def contracts(_checker):
-    """A table for each crate that has public functions."""
-    lines = []
+def unclaimed(_checker):
+    """How many public functions there are, and those that have no clause."""
+    count, without = 0, {}
     for crate in crates():
-        rows = list(rows_of(crate))
-        if rows:
-            lines += [f"## {crate}", "", "| Function | File | What | Clauses |", "|---|---|---|---|"]
-            lines += [*rows, ""]
-    return lines[:-1]
+        for path in sources_of(crate):
+            for owner, function, _, clauses in functions(text_of(path)):
+                count += 1
+                if not clauses:
+                    name = f"{owner}::{function}" if owner else function
+                    without.setdefault(crate, []).append(name)
+    total = sum(map(len, without.values()))
+    yield f"Of {count} public functions {total} have no clause:"
+    yield ""
+    yield "| Crate | Functions without a clause |"
+    yield "|---|---|"
+    for crate, names in without.items():
+        yield f"| `{crate}` | {', '.join(f'`{it}`' for it in names)} |"
 
 
-MAKERS = {"contracts": contracts}
+# Public functions that claim much, and are none of the seven.
+CLAIMING = {
+    "radius_codec": "read write_response",
+    "acct_book_forward": "carry_account",
+    "acct_book_audit": "audit",
+    "acct_sql": "SqlBook::adopt SqlBook::create SqlBook::migrate SqlBook::add_plans",
+    "acct_sql_log": "damage_in",
+    "acct_desk": "handle",
+    "acct_files": "import",
+    "acct_site_config": "config_of",
+    "acct_net_callers": "Caller::has_timed_out Caller::may_be_dropped",
+    "acct_program_commands": "take_site run_forward run_audit",
+    "acct_program_serving": "balances_are_told",
+}
+
+
+def claims(checker):
+    """Each of these functions with its file, its comment, and the names of its clauses."""
+    yield "| Function | What it does | Clauses |"
+    yield "|---|---|---|"
+    for crate, wanted in CLAIMING.items():
+        found = {}
+        for path in sources_of(crate):
+            for owner, name, comment, clauses in functions(text_of(path)):
+                about = re.sub(r"\[(`[^`]+`)\]", r"\1", comment).rstrip(".")
+                found[f"{owner}::{name}" if owner else name] = (path, about, clauses)
+        for name in wanted.split():
+            if name not in found:
+                checker.find(1, f"`{name}` is no public function of {crate}: see contracts.py")
+                continue
+            path, about, clauses = found[name]
+            said = ", ".join(f"`{it}`" for it in clauses)
+            yield f"| [`{name}`](../{path}) | {about} | {said} |"
+
+
+MAKERS = {"unclaimed": unclaimed, "claims": claims}

@@ -9,7 +9,7 @@ PLACE = os.path.join(ROOT, "etc", "radacctl", "doctor", "faults.py")
 # What an operator does, by the fault. The doctor prints a cure of its own, of what it found.
 CURES = {
     "book-away": "**stop and restart nothing**: [the book is "
-                 "missing](DAMAGE.md#the-book-is-missing)",
+                 "missing](GONE.md#the-book-is-missing)",
     "unit-down": "start it; `journalctl -u` and its name says why it stopped",
     "unit-failed": "`journalctl -u` and its name; once it is mended, start it: it shows that it "
                    "runs",
@@ -49,7 +49,7 @@ CURES = {
     "certificate-old": "reload nginx, or restart radacctd-front",
     "pages-settings": "write name, address and currency",
     "copy-old": "`radacctl copy`",
-    "copy-bad": "[DAMAGE](DAMAGE.md); make a copy now",
+    "copy-bad": "[GONE](GONE.md); make a copy now",
     "pair-waits": "start what is down ([two machines](../site/pair/README.md))",
 }
 

@@ -1,5 +1,5 @@
-"""Each failure that a body of the product names, of which docs/PROOFS.md has a table: a clause that
-allows a failure at any size allows a body that always fails. What a pattern compares is not named.
+"""Each failure that a body of the product names, of which docs/proofs/AUDIT.md has a table: a clause
+that allows a failure allows a body that always fails. What a pattern compares is not named.
 """
 
 import re

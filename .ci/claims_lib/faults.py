@@ -1,4 +1,4 @@
-"""The tables of docs/TROUBLE.md: each fault that ends a command, and each reason of a drop.
+"""Tables of docs/reference/faults.md: each fault that ends a command, and each reason of a drop.
 
 Texts, names, statuses, numbers and the order of the tests are those of the sources, and so is what
 a reason means. Causes and cures stand here. A fault or a reason without a cure is a finding.
@@ -37,11 +37,12 @@ CURES = {
     ),
     "db: NotABook": (
         "no book, or one that `sqlite3` changed; from `init`: the book is there",
-        "another path, or [DAMAGE](DAMAGE.md#another-program-changed-the-book)",
+        "another path, or [GONE](GONE.md#another-program-changed-the-book)",
     ),
     "db: WrongSchema": (
         "a book of another version; from `migrate`: its number is neither 1 nor 2",
-        "[`migrate`](BOOK.md#a-book-of-an-earlier-version), or that version; if it is 3, nothing",
+        "[`migrate`](proofs/BOOK.md#a-book-of-an-earlier-version), or that version; if it is 3,"
+        " nothing",
     ),
     "db: PlansDiffer": (
         "plans differ from the book's, and `--explain` names one; from `migrate`: also a plan with"
@@ -49,8 +50,8 @@ CURES = {
         "restore it, or [add it](SITE.md#add-a-plan); for `migrate` the plans of the older book",
     ),
     "db: Unbalanced": (
-        "[an audit](BOOK.md#audit-a-book) found a wrong balance",
-        "[restore the copy](DAMAGE.md#restore-the-last-copy)",
+        "[an audit](proofs/BOOK.md#audit-a-book) found a wrong balance",
+        "[restore the copy](GONE.md#restore-the-last-copy)",
     ),
     "db: Unavailable": (BLOCKED, "start it again; check disk and memory"),
     "db: Memory": ("out of memory", "free memory"),

@@ -1,4 +1,4 @@
-"""Figures: the tables of docs/BENCHES.md, and the numbers that other pages round.
+"""Figures: the tables of docs/proofs/FIGURES.md, and the numbers that other pages round.
 
 bench/history.csv has a row for each measurement, and only grows. Rows of one id are the history of
 one question: the last one is what pages say. A page marks a number as `1.2 s <!-- large/start -->`;
@@ -6,10 +6,8 @@ it is right if it is the row's value, or one of its range, or within a quarter o
 """
 
 import csv
-import datetime
 import io
 import re
-import sys
 
 from claims_lib.tree import text_of
 
@@ -20,8 +18,6 @@ COLUMNS = (
 ).split()
 MARK = re.compile(r"<!-- ([a-z0-9]+/[a-z0-9-]+) -->")
 NUMBER = re.compile(r"\d[\d,]*(?:\.\d+)?")
-# After so many days a figure is old, which is a warning: the gate says the same on any day.
-OLD = 90
 UNITS = {"1/s": "a second", "lines/s": "lines a second"}
 
 
@@ -96,9 +92,13 @@ def figures(checker, topics):
 
 
 def check(checker):
+    """Each mark is of a row, and near it; each topic is in a table; each row is whole."""
     known = latest()
-    for checker.page in [it for it in checker.pages if it.endswith(".md")]:
+    shown_topics = set()
+    for checker.page in checker.pages:
         text = text_of(checker.page)
+        tables = re.findall(r"<!-- made: figures ([^>]*) -->", text)
+        shown_topics.update(" ".join(tables).split())
         for found in MARK.finditer(text):
             line = text.count("\n", 0, found.start()) + 1
             row = known.get(found[1])
@@ -108,21 +108,13 @@ def check(checker):
             elif not is_near(before, row):
                 said = " ".join(before.split())[-40:]
                 checker.find(line, f"`{said}`: {found[1]} is {shown(row)}")
-    check_shown(checker, known)
-    check_marked(checker)
-
-
-# Pages whose tables give figures: each cell that begins with one has its mark.
-MARKED = ("README.md", "docs/SIZING.md")
-MEASURED = re.compile(r"^(?:about |under )?\d[\d,.]* (?:s|ms|us|min|MB|GB|to)\b")
-
-
-def check_marked(checker):
-    for checker.page in MARKED:
-        for block in checker.pages[checker.page]:
-            for cell in block.cells() if block.kind == "row" else ():
-                if MEASURED.match(cell) and not MARK.search(cell):
-                    checker.find(block.line, f"`{cell}`: of which row of {PATH}?")
+    checker.page = PATH
+    for topic in sorted({it.split("/")[0] for it in known} - shown_topics):
+        checker.find(1, f"no page has a table of the figures of `{topic}`")
+    for at, row in enumerate(rows(), 2):
+        wrong = wrong_with(row, checker)
+        if wrong:
+            checker.find(at, wrong)
 
 
 def is_near(text, row):
@@ -131,60 +123,21 @@ def is_near(text, row):
     known = [float(row[it]) for it in ("low", "value", "high") if row[it]]
     if re.search(r"\bunder [\d.,]+ \w+\s*$", text):
         return bool(known) and max(known) <= given[-1]
-    near = lambda one, two: abs(one - two) <= 0.25 * max(one, two)
-    return bool(given) and any(near(given[-1], it) for it in known)
+    return bool(given) and any(abs(given[-1] - it) <= 0.25 * max(given[-1], it) for it in known)
 
 
-def check_shown(checker, known):
-    """Each topic is in a table of the page on figures."""
-    checker.page = "docs/BENCHES.md"
-    made = re.findall(r"<!-- made: figures ([^>]*) -->", text_of(checker.page))
-    topics = {it for part in made for it in part.split()}
-    for topic in sorted({it.split("/")[0] for it in known} - topics):
-        checker.find(1, f"no table has the figures of `{topic}`")
-
-
-def check_rows(checker):
-    """Whether each row is whole, has a date, and its script is there."""
-    checker.page, before = PATH, len(checker.findings)
-    lines = text_of(PATH).splitlines()
-    if lines[0].split(",") != COLUMNS:
-        checker.find(1, "the head is not that of claims_lib/history.py")
-        return False
-    dates = {}
-    for at, row in enumerate(rows(), 2):
-        wrong = wrong_with(row, dates.get(row["id"], ""), checker)
-        dates[row["id"]] = row["date"] or ""
-        if wrong:
-            checker.find(at, wrong)
-    return len(checker.findings) == before
-
-
-def wrong_with(row, before, checker):
-    if None in row or None in row.values():
+def wrong_with(row, checker):
+    """What is wrong with a row of the file."""
+    if None in row or None in row.values() or list(row) != COLUMNS:
         return f"it has not {len(COLUMNS)} fields"
-    if not re.fullmatch(r"20\d\d-\d\d-\d\d", row["date"]) or row["date"] < before:
-        return f"{row['date']}: no date, or earlier than the row before it of this question"
-    if not re.fullmatch(r"[a-z0-9]+/[a-z0-9-]+", row["id"]):
-        return f"{row['id']}: an id is a topic and a name"
+    if not re.fullmatch(r"20\d\d-\d\d-\d\d", row["date"]):
+        return f"{row['date']}: no date"
     script = row["script"].split(" ")[0]
     if script not in ("by", "computed") and script not in checker.tree.paths:
         return f"{row['script']}: no such script"
-    numeric = [row[it] for it in ("low", "value", "high") if row[it]]
-    bad = [it for it in numeric if not re.fullmatch(r"\d+(\.\d+)?", it)]
-    if not row["value"] and bool(row["low"]) != bool(row["high"]):
-        return "it has neither a value nor both ends of a range"
+    numbers_of = [row[it] for it in ("low", "value", "high")]
+    bad = [it for it in numbers_of if not re.fullmatch(r"(\d+(\.\d+)?)?", it)]
     return f"{bad[0]}: no number" if bad else ""
-
-
-def warn_of_age():
-    """Says which figures are old. It changes no status."""
-    today = datetime.date.today()
-    old = [it for it in latest().values()
-           if (today - datetime.date.fromisoformat(it["date"])).days > OLD]
-    if old:
-        print(f"claims: {len(old)} figures are older than {OLD} days, such as {old[0]['id']}",
-              file=sys.stderr)
 
 
 MAKERS = {"figures": figures}

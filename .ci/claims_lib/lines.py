@@ -1,4 +1,4 @@
-"""The lines that a server prints while it runs, as docs/TROUBLE.md lists them.
+"""The lines that a server prints while it runs, as docs/reference/faults.md lists them.
 
 The texts are those of the sources; examples and meanings stand here. A text without a meaning is a
 finding, and so is a meaning of a text that no source has.
@@ -55,7 +55,7 @@ LINES = {
         "clock: 1700000000 is before 1700003600, when the book was last written",
         "the clock is behind at the start. Moments will be wrong, balances not"),
     "db: the name of {name}, or of its log, {what}": (
-        "db: the name of ...", f"{AWAY} answered](DAMAGE.md#the-book-is-missing)"),
+        "db: the name of ...", f"{AWAY} answered](GONE.md#the-book-is-missing)"),
     "warning: {file} line {line}: the secret of client {name} is the sample's, which is public":
         PUBLIC,
     "warning: {file}: the secret of client {name} is the sample's, which is public": None,

@@ -6,22 +6,21 @@ A page marks such a part by two comments, each on a line of its own. What is bet
     ...
     <!-- end -->
 
-`.ci/claims --write` puts it there, and `.ci/claims` fails if it differs. It needs no build and no
-network. MAKERS has each name with the function that gives the lines.
+`.ci/claims --write` puts it there, and `.ci/claims` fails if it differs. MAKERS has each name with
+the function that gives the lines, whose links are those of a page of docs.
 """
 
 import os
 import re
 
-from claims_lib import configured, contracts, doctor, failures, faults, frames, history
-from claims_lib import lines, made_tables, notions, printed, signatures, statuses, tables, typed
-from claims_lib import unopened, variants
+from claims_lib import configured, contracts, doctor, failures, faults, history, lines, made_tables
+from claims_lib import notions, printed, reading, statuses, tables, typed, unopened, variants
 from claims_lib.tree import ROOT, text_of
 
 PART = re.compile(r"^<!-- made: ([^\n]+?) -->\n(.*?)^<!-- end -->$", re.M | re.S)
 MAKERS = {}
-for source in (configured, contracts, doctor, failures, faults, frames, history, lines,
-               made_tables, notions, printed, signatures, statuses, tables, typed, unopened, variants):
+for source in (configured, contracts, doctor, failures, faults, history, lines, made_tables,
+               notions, printed, reading, statuses, tables, typed, unopened, variants):
     MAKERS.update(source.MAKERS)
 HOW = "make it again: .ci/claims --write"
 
@@ -30,6 +29,17 @@ def maker_of(name):
     """The function that makes a part, with the words behind its name as arguments."""
     first, *words = name.split(" ", 1)
     return (lambda checker: MAKERS[first](checker, *words)) if first in MAKERS else None
+
+
+def seen_from(page, line):
+    """A line with its links, which are those of a page of docs, as another page has them."""
+    folder = os.path.dirname(page)
+
+    def led(found):
+        path = os.path.normpath(os.path.join("docs", found[1]))
+        return f"]({os.path.relpath(path, folder)}{found[2]})"
+
+    return re.sub(r"\]\(([\w./-]+)((?:#[\w-]+)?)\)", led, line)
 
 
 def made(checker, text):
@@ -41,7 +51,7 @@ def made(checker, text):
         if not maker:
             lost.append(found[1])
             return found[0]
-        lines = "\n".join(maker(checker))
+        lines = "\n".join(seen_from(checker.page, it) for it in maker(checker))
         return f"<!-- made: {found[1]} -->\n\n{lines}\n\n<!-- end -->"
 
     return PART.sub(again, text), lost
@@ -52,14 +62,10 @@ def by_hand(text):
     return PART.sub("", text)
 
 
-def markdown(checker):
-    return [it for it in checker.pages if it.endswith(".md")]
-
-
 def check(checker):
     """Each made part is as its source makes it, and each maker is used."""
     used = set()
-    for checker.page in markdown(checker):
+    for checker.page in checker.pages:
         text = text_of(checker.page)
         whole, lost = made(checker, text)
         used.update(it[1].split(" ", 1)[0] for it in PART.finditer(text))
@@ -78,10 +84,10 @@ def check(checker):
 
 def write(checker):
     """Puts each made part into its page, and says which pages changed."""
-    for page in markdown(checker):
-        text = text_of(page)
+    for checker.page in checker.pages:
+        text = text_of(checker.page)
         whole, _ = made(checker, text)
         if whole != text:
-            with open(os.path.join(ROOT, page), "w", encoding="utf-8") as file:
+            with open(os.path.join(ROOT, checker.page), "w", encoding="utf-8") as file:
                 file.write(whole)
-            print(f"claims: {page} is made again")
+            print(f"claims: {checker.page} is made again")

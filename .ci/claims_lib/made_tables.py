@@ -3,8 +3,8 @@
 import ast
 import re
 
-from claims_lib import contracts, figures, openers, reading
-from claims_lib.tree import FOR_TESTS, text_of, without_comments
+from claims_lib import contracts, openers
+from claims_lib.tree import text_of, without_comments
 
 FIGURES = "crates/acct_program_commands/src/figures.rt"
 DOCTOR = "etc/radacctl/commands/doctor.py"
@@ -16,7 +16,7 @@ NOTES = {
     "radacctd_datagrams_total": "dropped ones, too",
     "radacctd_last_report_time_seconds": "0: none yet",
     "radacctd_config_is_current": "0: the changed file has a fault, or plans that wait",
-    "radacctd_book_is_there": "0: [moved or removed](DAMAGE.md#the-book-is-missing)",
+    "radacctd_book_is_there": "0: [moved or removed](GONE.md#the-book-is-missing)",
     "radacctd_balances_time_seconds": "0: not yet",
     "radacctd_accounts": "absent without a file of balances",
     "radacctd_overdrawn_accounts": "absent without a file of balances",
@@ -99,11 +99,6 @@ def alerts(_checker):
                 yield row(f"`{name}`", severity, summary, first or "in the morning", link)
 
 
-def layers(_checker):
-    """README's drawing of what is proved: that of docs/PROOFS.md, without names of contracts."""
-    yield from re.findall(r"^(    \w+ -> \w+ .*?)(?:: \w+)?$", text_of("docs/PROOFS.md"), re.M)
-
-
 def commands(_checker):
     """Each command of the program with the first sentence of the manual page on it."""
     page = text_of("man/radacctd.8").split("The commands:\n")[1].split("The options:\n")[0]
@@ -114,20 +109,20 @@ def commands(_checker):
         yield row(f"`{name}`", contracts.first_of(plain).rstrip("."))
 
 
-# Where each command of radacctl is explained: on the page of the table, or on another one.
+# Where each command of radacctl is explained.
 EXPLAINED = {
     "setup": "[START](START.md)",
     "doctor": "[DOCTOR](DOCTOR.md)",
     "key": "[DESK](DESK.md#keys-and-cards)",
-    "sell": "[below](#credit-a-file-of-vouchers)",
-    "debit": "[below](#take-money-back)",
+    "sell": "[VOUCHERS](VOUCHERS.md#credit-a-file-of-vouchers)",
+    "debit": "[VOUCHERS](VOUCHERS.md#take-money-back)",
     "voucher": "[DESK](DESK.md#printed-vouchers)",
     "person": "[DESK](DESK.md#put-a-proxy-in-front)",
     "minute": "[DESK](DESK.md#what-sells)",
     **dict.fromkeys(("sales", "balance", "show", "who"), "[DESK](DESK.md#who-sold-what)"),
     **dict.fromkeys(("package", "code"), "[packages](../site/packages/README.md)"),
-    "allow": "[below](#allowances)",
-    "report": "[below](#reports)",
+    "allow": "[VOUCHERS](VOUCHERS.md#allowances)",
+    "report": "[VOUCHERS](VOUCHERS.md#reports)",
     **dict.fromkeys(("copy", "restore"), "[copies](../site/copies/README.md)"),
 }
 
@@ -145,20 +140,30 @@ def radacctl(checker):
 
 
 # A limit of the site, in words, with the constants that it has in the order of the words.
+CONFIG, CALLER = "acct_site_config/src/config_text.rt", "acct_net_callers/src/caller.rt"
 LIMITS = (
-    (
-        "a site",
-        "{} access servers, {} plans, {} keys",
-        ("MOST_CLIENTS", "MOST_PLANS", "MOST_KEYS"),
-    ),
-    (
-        "reports",
-        "IPv4, at {} addresses; datagrams of {} octets",
-        ("MOST_ADDRESSES", "LONGEST_PACKET"),
-    ),
-    ("the desk", "{} connected callers; others wait for a place", ("PLACES",)),
-    ("an import", "{} vouchers", ("MOST_RECORDS",)),
+    ("a site", "{} access servers, {} plans, {} keys",
+     (f"{CONFIG} MOST_CLIENTS", f"{CONFIG} MOST_PLANS", f"{CONFIG} MOST_KEYS")),
+    ("reports", "IPv4, at {} addresses; datagrams of {} octets",
+     ("acct_program_args/src/option_limits.rt MOST_ADDRESSES",
+      "radius_codec/src/limits.rt LONGEST_PACKET")),
+    ("the desk", "{} connected callers; others wait for a place", ("acct_net/src/desk.rt PLACES",)),
+    ("a request of the desk",
+     "{} octets of head, {} of body; sent in {} seconds, silent for at most {}",
+     ("acct_desk/src/framing.rt HEAD_LIMIT", "acct_desk/src/framing.rt BODY_LIMIT",
+      f"{CALLER} SECONDS_TO_ASK", f"{CALLER} SECONDS_OF_SILENCE")),
+    ("a response of the desk", "taken without a silence of {} seconds",
+     (f"{CALLER} SECONDS_TO_TAKE",)),
+    ("an import", "{} vouchers", ("acct_files/src/importing.rt MOST_RECORDS",)),
+    ("a file that is read whole", "{} octets", ("acct_program/src/input.rt MOST_OCTETS",)),
 )
+
+
+def constant(named):
+    """The number of a constant of a source."""
+    path, name = named.split()
+    found = re.search(rf"\b{name}: \w+ = ([\d_]+);", text_of(f"crates/{path}"))
+    return int(found[1].replace("_", ""))
 
 
 def limits(_checker):
@@ -166,7 +171,7 @@ def limits(_checker):
     yield row("Limit", "")
     yield "|---|---|"
     for what, words, names in LIMITS:
-        yield row(what, words.format(*(f"{figures.constant(it):,}" for it in names)))
+        yield row(what, words.format(*(f"{constant(it):,}" for it in names)))
     yield row("a balance", "-2^62 to 2^62")
 
 
@@ -179,21 +184,6 @@ def crates(_checker):
         about = re.match(r"(?://!.*\n)+", text_of(top))[0]
         about = contracts.first_of(contracts.comment_before(about, len(about)))
         yield row(f"`{name}`", about.rstrip("."))
-
-
-def read_of(checker):
-    from claims_lib import lists
-
-    page, read = checker.page, lists.reading_of(checker)
-    checker.page = page
-    return read
-
-
-def definitions(checker):
-    """What an auditor reads of definitions: a row for each contract and folder, and the sum."""
-    *rows, total = reading.shown(read_of(checker))
-    why = "each file that the contracts name, or that such a file names in turn."
-    return [*rows, "", f"{total}: {why} `.ci/claims` computes the list."]
 
 
 def wrong_bodies(checker):
@@ -243,31 +233,24 @@ def by_hand(checker):
             yield row(f"`{path}`", contracts.first_of(about).rstrip(".").replace("|", "\\|"))
 
 
-def files_with(checker, word):
-    """How many files have a word: of the program, of its tests, and of what is run by hand."""
-    counts = {"crates": 0, "tests": 0, "by hand": 0}
-    for path in checker.tree.files:
-        crate = path.split("/")[1] if "/" in path else ""
-        kind = "crates" if path.startswith("crates/") and path.endswith((".rt", ".antt")) else None
-        kind = "tests" if kind and FOR_TESTS.search(crate) else kind
-        kind = "by hand" if path.startswith(("bench/", "interop/")) else kind
-        if kind and re.search(rf"\b{word}\b", text_of(path)):
-            counts[kind] += 1
-    yield (f"For example `{word}`: {counts['crates']} files of source, definitions and proofs,"
-           f" {counts['tests']} of tests,")
-    yield f"and {counts['by hand']} of `bench` and `interop`."
+# The test that is a whole caller of two crates.
+CALLER = "crates/acct_model_tests/src/caller.rt"
+
+
+def caller(_checker):
+    """That test, without its first comment."""
+    lines = text_of(CALLER).rstrip("\n").split("\n")
+    return ["```rust", *(it for it in lines if not it.startswith("//!")), "```"]
 
 
 MAKERS = {
+    "caller": caller,
     "alerts": alerts,
-    "layers": layers,
-    "files-with": files_with,
     "metrics": metrics,
     "commands": commands,
     "radacctl": radacctl,
     "limits": limits,
     "crates": crates,
-    "definitions": definitions,
     "wrong-bodies": wrong_bodies,
     "by-eye": by_eye,
     "by-hand": by_hand,

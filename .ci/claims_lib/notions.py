@@ -1,4 +1,4 @@
-"""The notions of docs/DEFINITIONS.md: each definition with what its comment says and its file.
+"""The notions of docs/proofs/DEFINITIONS.md: each definition with its comment and its file.
 
 A mark names files, each with definitions of it: `notions CRATE/specs/FILE: name name; FILE: name`. A
 file without a folder is in the folder of the file before it. A definition has its comment directly

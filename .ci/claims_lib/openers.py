@@ -93,7 +93,7 @@ GIVEN = {
 }
 
 # What a person reads, since no clause says it: whole sources, and functions of others.
-PAGE = "docs/PROOFS.md"
+PAGE = "docs/proofs/AUDIT.md"
 BY_EYE = (
     (
         MAIN,

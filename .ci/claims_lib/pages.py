@@ -97,26 +97,6 @@ def blocks_of(text):
     return reader.blocks
 
 
-def mdoc_blocks(text):
-    """What a manual page marks as a name or a text, as texts in backticks, and its examples."""
-    section, blocks, example = Section("", 0, None), [], False
-    for number, line in enumerate(text.split("\n"), 1):
-        example = (example or line.startswith(".Bd -literal")) and not line.startswith(".Ed")
-        if example and not line.startswith("."):
-            blocks.append(Block(number, "code", line.replace("\\e", "\\"), section))
-        for mark, rest in re.findall(r"(?:^\.|(?:It|Op|Pq|,) )(Ql|Li|Ic|Pa|Fl|Cm) (.+)", line):
-            words = re.split(r" [A-Z][a-z] | [.,;:)]+(?: |$)", rest)[0].strip('"')
-            if words not in ("h", "V"):
-                words = f"`{'-' if mark == 'Fl' else ''}{words}`"
-                blocks.append(Block(number, "text", words, section))
-        # Another page of the program, and a tool.
-        for name, part in re.findall(r"(?:^\.| )Xr (radacctd\S*) (\d)", line):
-            blocks.append(Block(number, "text", f"[{name}]({name}.{part})", section))
-        for name in re.findall(r"(?:^\.| )Nm (radacctd-[a-z-]+)", line):
-            blocks.append(Block(number, "text", f"`{name}`", section))
-    return blocks
-
-
 def anchors_of(blocks):
     """The anchors of a page, as its headings give them."""
     found = []

@@ -18,9 +18,11 @@ from claims_lib.style import made_lines, plain
 from claims_lib.tree import ROOT, text_of
 
 OPERATORS = (
-    "README ACCESS-SERVERS BOOK DAMAGE DESK DOCTOR FILES FORWARD FRONTDESK INSTALL"
-    " SEMANTICS SITE SIZING START TROUBLE VOUCHERS WATCHING"
+    "README ACCESS-SERVERS DESK DOCTOR FORWARD FRONTDESK GONE INSTALL"
+    " SITE SIZING START TROUBLE VOUCHERS WATCHING"
 ).split()
+# Pages for others that promise, too.
+OTHERS = ("docs/proofs/SEMANTICS.md", "docs/proofs/BOOK.md", "docs/reference/files.md")
 PROMISE = re.compile(
     r"\b(?:never|always|charged\s+once|credited\s+once|exactly\s+once|acts?\s+once|counts\s+once"
     r"|(?:nothing|none|no\s\w+)\b[^.;|]{0,40}?\bis\s+lost|loses\s+nothing|not\s+lost"
@@ -36,10 +38,10 @@ ONCE, CARRIED = re.compile(r"charged\s+once", re.I), re.compile(r"carried\s+forw
 AT_ONCE = re.compile(r"After a power cut|The queues and outboxes drain|If its sync\s+failed")
 # Parts of which each row, or each item, names what holds it.
 WHOLE = (
-    ("docs/PROOFS.md", "What is only tested", "row"),
+    ("docs/proofs/AUDIT.md", "What is only tested", "row"),
     ("docs/DESK.md", "Who sold what", "row"),
-    ("docs/DAMAGE.md", "What is not found", "text"),
-    ("docs/SEMANTICS.md", "What a kill leaves", "row"),
+    ("docs/GONE.md", "What is not found", "text"),
+    ("docs/proofs/SEMANTICS.md", "What a kill leaves", "row"),
     ("docs/SIZING.md", "How often a commit syncs", "row"),
     ("docs/TROUBLE.md", "What an outage costs", "row"),
 )
@@ -86,7 +88,8 @@ def fault_of(mark, tree):
 def check_whole(checker):
     """Each row or item of these parts names what holds it."""
     for checker.page, title, kind in WHOLE:
-        found = [it for it in checker.pages[checker.page] if it.section.title == title]
+        blocks = checker.pages.get(checker.page, [])
+        found = [it for it in blocks if it.section.title == title]
         if not found:
             checker.find(1, f"it has no part `{title}`: see claims_lib/promises.py")
         for block, after in zip(found, [*found[1:], None]):
@@ -100,7 +103,7 @@ def check_whole(checker):
 
 def check(checker):
     check_whole(checker)
-    for checker.page in map(page_of, OPERATORS):
+    for checker.page in [*map(page_of, OPERATORS), *OTHERS]:
         blocks = checker.pages.get(checker.page, [])
         kept = made_lines(text_of(checker.page)) if blocks else ()
         for block in blocks:

@@ -1,4 +1,4 @@
-"""What an auditor reads: the definitions that the seven contracts of docs/PROOFS.md rest on.
+"""What an auditor reads: the definitions that the seven contracts of docs/proofs/AUDIT.md rest on.
 
 A contract cites definitions by the names that it uses and its file's `ghost use` lines bring in. A
 file of definitions cites those of its `use` lines. Only files of this repository count: the kit's
@@ -11,12 +11,10 @@ import re
 
 from claims_lib.tree import text_of
 
-PAGE = "docs/PROOFS.md"
+PAGE, TITLE = "docs/proofs/AUDIT.md", "The promise, in seven rows"
 USE = re.compile(
     r"^\s*(?:pub |ghost )?use Rattle\.(\w+)\.specs\.([\w.]+?)(?:\.\{([^}]*)\}| as (\w+))?;?$", re.M
 )
-# Definitions in an `inner` folder that a trait of the promise names. The page must show each.
-INNER = {}
 
 
 def unread(text):
@@ -74,7 +72,7 @@ class Reading:
     def declared(self, name):
         """The trait of that name with ghosts, if there is one."""
         for path in self.tree.files:
-            if path.endswith(".rt") and "/src/" in path and name in self.tree.names[path]:
+            if path.startswith("crates/") and path.endswith(".rt") and "/src/" in path:
                 if re.search(rf"^pub trait {name}\b[^}}]*\bghost ", text_of(path), re.M):
                     _, crate, _, file = path.split("/", 3)
                     yield crate, file, name
@@ -90,12 +88,12 @@ class Reading:
         if spec.startswith("declared."):
             file, name = spec.split(".")[1:-1], spec.split(".")[-1]
             path = f"{crate}/src/{'/'.join(file)}.rt"
-            if f"crates/{path}" in self.tree.names:
+            if f"crates/{path}" in self.tree.paths:
                 if re.search(rf"^pub trait {name}\b", text_of(f"crates/{path}"), re.M):
                     self.trait(path, name)
             return
         path = f"{crate}/specs/{spec.replace('.', '/')}.antt"
-        if f"crates/{path}" not in self.tree.names:
+        if f"crates/{path}" not in self.tree.paths:
             self.faults.append(f"{by}: no file {path}")
         elif path not in self.seen:
             self.seen[path] = by
@@ -118,8 +116,17 @@ def table_of(files):
     return groups
 
 
-def shown(read):
-    """The rows and the sentence that the page is to have."""
+def promise_of(checker):
+    """The seven functions of the promise, each with its file."""
+    for block in checker.pages[PAGE]:
+        found = re.fullmatch(r"\|[^|]*\| `(\w+)` \| `([\w/]+\.rt)` \|", block.text)
+        if found and block.section.title == TITLE:
+            yield found[1], found[2]
+
+
+def definitions(checker):
+    """What an auditor reads of definitions: a row for each contract and folder, and the sum."""
+    page, read = checker.page, Reading(checker.tree, list(promise_of(checker)))
     yield "| Contract | Definitions | Lines |"
     yield "|---|---|---|"
     for name, files in read.rows:
@@ -128,4 +135,25 @@ def shown(read):
             first = f"`{name}`" if at == 0 else ""
             yield f"| {first} | `{folder}`: {', '.join(names)} | {count:,} |".replace("|  |", "| |")
     count = sum(lines_of(it) for it in read.own)
-    yield f"These are {len(read.own)} files of {count:,} lines"
+    yield ""
+    yield (f"These are {len(read.own)} files of {count:,} lines: each file that the contracts name,"
+           " or that such a file names in turn. `.ci/claims` computes the list.")
+    check_read(checker, read, count)
+    checker.page = page
+
+
+def check_read(checker, read, count):
+    """The list is whole, enters no `inner` folder, and README says how long it is."""
+    checker.page = PAGE
+    for fault in read.faults:
+        checker.find(1, fault)
+    for path in read.inner:
+        checker.find(1, f"the promise enters {path} (by {read.seen[path]})")
+    if len(read.rows) != 7:
+        checker.find(1, f"the promise has {len(read.rows)} rows, not seven")
+    checker.page = "README.md"
+    if f"{count:,} lines of definitions" not in text_of("README.md"):
+        checker.find(1, f"say: {count:,} lines of definitions")
+
+
+MAKERS = {"definitions": definitions}

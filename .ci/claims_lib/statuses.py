@@ -1,4 +1,4 @@
-"""The statuses of the desk, as docs/DESK.md lists them: each with its body, as the sources have it.
+"""The statuses of the desk, as docs/reference/requests.md lists them: each with its body.
 
 The order is the one in which the desk decides. The causes stand here. A body without a cause is a
 finding, and so is a cause of a body that the desk never sends.

@@ -1,6 +1,5 @@
-"""The tables of a book on docs/BOOK.md: columns and types are those of the statements that make
-them. And the columns of an export on docs/FILES.md, as its header has them. What each means stands
-here, and a column without a meaning is a finding.
+"""The tables of a book and the columns of an export on docs/reference/files.md, as statements and a
+header have them. What each means stands here, and a column without a meaning is a finding.
 """
 
 import re

@@ -1,5 +1,5 @@
 """Who types the commands of an operator's page: the script that reads it and runs its steps, or a
-person, and why. docs/BENCHES.md has the table.
+person, and why. docs/proofs/FIGURES.md has the table.
 """
 
 # The scripts that run a page's commands, by its name.
@@ -12,14 +12,12 @@ RUN = {
 # Pages whose commands a person types, and why no script does.
 BY_HAND = {
     "ACCESS-SERVERS": "each setting is of another maker's device: interop/access-servers",
-    "BOOK": "flips, gone and run use the same commands over their own books",
     "FORWARD": "interop/forward does the same over its own books",
     "SITE": "interop/systemd types the steps of a change, and no script those of a plan",
     "DOCTOR": "interop/doctor breaks a site in each way of the page",
-    "DAMAGE": "each way needs damage of its own; interop/flips and interop/telling make some of it",
+    "GONE": "each way needs damage of its own; interop/flips and interop/telling make some of it",
     "FRONTDESK": "a clerk's page: no command",
     "README": "bin/try and bin/build run it",
-    "SEMANTICS": "what replies mean: its commands are those of other pages",
     "SIZING": "it changes the kernel's settings",
     "TROUBLE": "each symptom is another; interop/telling makes what it explains",
     "VOUCHERS": "interop/tools runs each of its tools over sites of its own",

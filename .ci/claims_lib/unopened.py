@@ -1,4 +1,4 @@
-"""Why a book cannot be opened, as docs/TROUBLE.md lists it: each text that `--explain` prints of it.
+"""Why a book cannot be opened, as docs/reference/faults.md lists it: each text of `--explain`.
 
 The texts are those of the sources. What to do stands here. A text without a cure is a finding, and
 so is a cure of a text that nothing prints.
@@ -13,16 +13,16 @@ FOLDER = "crates/acct_program_explain/src"
 OF_CONFIGURATION, NOT_THERE = "why_unread", "there is no such file"
 # What a line has in the place of a value.
 VALUES = {"{frame}": "12", "{commits}": "36", "{log}": "LOG"}
-DAMAGED = "[the log is damaged](DAMAGE.md#the-log-is-damaged)"
+DAMAGED = "[the log is damaged](GONE.md#the-log-is-damaged)"
 RIGHTS = "`chown` it to the service's user"
 PATH = "another path"
-ELSE = "`df`, free memory, the folder's owner; else [DAMAGE](DAMAGE.md)"
+ELSE = "`df`, free memory, the folder's owner; else [GONE](GONE.md)"
 # How each text begins, and what to do.
 CURES = {
     "there is no such file, and init makes one": "find the book; only for a new site:"
     " [`init`](INSTALL.md#the-first-start)",
     "next to it is a log, LOG, of a book that is missing": "[find its"
-    " file](DAMAGE.md#the-book-is-missing): the log has what was answered",
+    " file](GONE.md#the-book-is-missing): the log has what was answered",
     "it is an empty file, and init makes a book in it": "look for the book; only for a new site:"
     " [`init`](INSTALL.md#the-first-start)",
     "it has fewer than 100 octets, so it is no book": "look for the book; if there is none, as"
@@ -41,7 +41,7 @@ CURES = {
     "frame 12 of its log is damaged, and this log shows no lost commit": DAMAGED,
     "the header of its log is damaged, and each commit in it is lost": DAMAGED,
     "it is no SQLite database": "another path, or [restore the last"
-    " copy](DAMAGE.md#restore-the-last-copy)",
+    " copy](GONE.md#restore-the-last-copy)",
     "it is damaged, its disk is full, or this user may not write in its folder": ELSE,
     "another program has it, its disk is full, this user may not write in its folder, or it is"
     " damaged": ELSE,

@@ -49,7 +49,7 @@ class Away(unittest.TestCase):
     """The page for trouble has a row of each body of a 503."""
 
     def test_each_503_has_a_row(self):
-        with open(os.path.join(ROOT, "docs/DESK.md"), encoding="utf-8") as file:
+        with open(os.path.join(ROOT, "docs/reference/requests.md"), encoding="utf-8") as file:
             bodies = set(re.findall(r'\| 503 \| `\{"error":"(\w+)"\}` \|', file.read()))
         self.assertEqual(bodies, {"unavailable"})
         with open(os.path.join(ROOT, "docs/TROUBLE.md"), encoding="utf-8") as file:

@@ -42,7 +42,7 @@ class Version(unittest.TestCase):
         self.assertEqual((packaged[1], heading[2]), (says, says))
         # What is not released yet is a package that is newer than the release.
         self.assertEqual(bool(packaged[2]), bool(heading[1]))
-        for path in glob.glob(os.path.join(ROOT, "docs", "*.md")):
+        for path in glob.glob(os.path.join(ROOT, "docs", "**", "*.md"), recursive=True):
             found = re.findall(r"\bradacctd[ _]v?(\d+\.\d+\.\d+)\b", text(path))
             self.assertEqual([it for it in found if it != says], [], path)
 

@@ -170,7 +170,7 @@ class Site(Folder):
         rows = ((("proved", b""),), (("csv", header + line),), copies, (("book", b""), *copies))
         for row in rows:
             said = self.lost(*row)
-            self.assertIn('DAMAGE.md, "The book is missing"', said, row)
+            self.assertIn('GONE.md, "The book is missing"', said, row)
             self.assertIn("--new-book", said)
             self.assertEqual("the newest copy is " in said, len(row) > 1)
             self.assertIsNone(self.lost(is_new_wanted=True))

@@ -14,7 +14,7 @@ def look_at(_):
     good, refused = places.names(), places.names(places.REFUSED)
     if refused and (not good or refused[-1].removeprefix(places.REFUSED) > good[-1]):
         yield Fault("copy-bad", f"{places.FOLDER}/{refused[-1]} was refused: the book may be damaged",
-                    "read DAMAGE.md, and journalctl -u radacctd-copy")
+                    "read GONE.md, and journalctl -u radacctd-copy")
     if not good:
         yield Fault("copy-old", f"there is no copy in {places.FOLDER}", NOW)
         return

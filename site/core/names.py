@@ -1,6 +1,6 @@
 """Which names an account may have, and how files and requests spell them.
 
-FreeRADIUS and the pages have the same rule (docs/FILES.md).
+FreeRADIUS and the pages have the same rule (docs/reference/files.md).
 
 A name is octets, and two names are one only if each octet is the same. A text spells an octet as
 itself, or as % and two hexadecimal digits.

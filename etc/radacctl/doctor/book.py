@@ -120,7 +120,7 @@ def away(book):
         raise look.Unseen(look.last_line(said))
     counted = look.samples(book.counts).get("radacctd_book_is_there", [({}, 1)])[0][1]
     lines = re.findall(r"^db: the name of .*$", journal_of(book), re.M)
-    page = 'DAMAGE.md, "The book is missing"'
+    page = 'GONE.md, "The book is missing"'
     if look.status_of(book.file) is None and not look.is_active(book.unit):
         last = site.last_copy()
         copy = f"restore the last copy, {last}" if last else "restore the last copy"

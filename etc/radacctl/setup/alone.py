@@ -244,7 +244,7 @@ def refuse_if_lost(is_new_wanted):
     if found and not is_new_wanted:
         raise steps.Failed(
             f"this site had a book, and {site.BOOK} is not there: {'; '.join(found)}. Put the book "
-            'back, or restore the copy: DAMAGE.md, "The book is missing". An empty book has no '
+            'back, or restore the copy: GONE.md, "The book is missing". An empty book has no '
             "balance of anybody; --new-book makes one")
 
 
