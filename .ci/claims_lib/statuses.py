@@ -6,6 +6,7 @@ finding, and so is a cause of a body that the desk never sends.
 
 import re
 
+from claims_lib import meanings
 from claims_lib.tree import text_of, without_comments
 
 SOURCES = (
@@ -19,25 +20,6 @@ NUMBERS = {
     "FORBIDDEN": 403, "NOT_FOUND": 404, "METHOD_NOT_ALLOWED": 405, "CONFLICT": 409, "PAYLOAD_TOO_LARGE": 413,
     "UNPROCESSABLE_ENTITY": 422, "SERVICE_UNAVAILABLE": 503,
 }
-# The words of each body with its cause. Bad requests are found before the key, and after it.
-CAUSES = (
-    ("bad request", "no whole HTTP request, a transfer coding, or a bad or second Content-Length"),
-    ("too large", "the head exceeds 8,192 octets, or the body 4,096"),
-    ("no such path", "none of the paths above, compared octet by octet"),
-    ("wrong method", "the other method; the line `Allow` names the right one"),
-    ("no key", "no `Desk-Key`, or no such key; the first of several counts"),
-    ("not allowed", "a key of another kind than the path's"),
-    ("bad request", "the body of a top-up is no JSON"),
-    ("bad topup", "a member of the top-up is missing or out of its bounds"),
-    ("bad login", "a part of the login's path is out of its bounds, or its stamp exceeds 253 octets"),
-    ("no balance", "the balance is below the price of a block"),
-    ("voucher differs", "this number was credited to another account, or with another sum"),
-    ("balance limit", "the balance would leave its range, 2^62 either way"),
-    ("unavailable", "the book could not be read or written"),
-    ("new", "the voucher was credited"),
-    ("repeat", "this very voucher was credited before"),
-)
-
 # Whose key has a role.
 BEARERS = dict(Account="a guest's", Cashier="a cashier's", Clerk="`accounts`", Logins="the front's")
 
@@ -58,11 +40,9 @@ def bodies():
 
 def rows(checker):
     found = bodies()
-    for words in sorted(set(found) ^ {it for it, _ in CAUSES}):
-        checker.find(1, f"`{words}`: no such body, or no cause: see claims_lib/statuses.py")
     yield "| Status | Body | Cause |"
     yield "|---|---|---|"
-    for words, cause in CAUSES:
+    for words, cause, _ in meanings.compared(checker, "statuses", found):
         status, kind = found.get(words, ("", ""))
         yield f'| {status} | `{{"{kind}":"{words}"}}` | {cause} |'
     yield "| 200 | a page | a question was answered |"
