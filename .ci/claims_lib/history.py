@@ -74,7 +74,7 @@ def plain(text):
 
 def figures(checker, topics):
     """The last figure of each question of these topics."""
-    yield "| What | Figure | Beside it | Seen |"
+    yield "| What | Figure | Compared with, and notes | Seen |"
     yield "|---|---|---|---|"
     for topic in topics.split():
         chosen = [it for it in latest().values() if it["id"].startswith(f"{topic}/")]
