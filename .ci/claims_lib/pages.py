@@ -44,7 +44,6 @@ class Section:
 
     def __init__(self, title, level, above):
         self.title, self.level, self.above = title, level, above
-        self.blocks = []
 
     def chain(self):
         """This section and those that it is in, the innermost first."""
@@ -83,7 +82,6 @@ class Reader:
         starts = kind in ("row", "heading") or re.match(r"\s*(- |\d+\. )", line)
         if kind != "none" and (kind != self.last or (starts and kind != "code")):
             self.blocks.append(Block(number, kind, line, self.section))
-            self.section.blocks.append(self.blocks[-1])
         elif kind != "none":
             self.blocks[-1].text += "\n" + line
         self.last = kind

@@ -1,4 +1,4 @@
-"""Each promise on a page for operators names what holds it.
+"""Each promise on a page for operators or auditors names what holds it.
 
 A sentence with a word such as "never", "always" or "charged once" is followed by a comment:
 
@@ -21,8 +21,9 @@ OPERATORS = (
     "README ACCESS-SERVERS DESK DOCTOR FORWARD FRONTDESK GONE INSTALL"
     " SITE SIZING START TROUBLE VOUCHERS WATCHING"
 ).split()
-# Pages for others that promise, too.
-OTHERS = ("docs/proofs/SEMANTICS.md", "docs/proofs/BOOK.md", "docs/reference/files.md")
+# Pages that speak of contracts themselves, or of work on the repository.
+ENGINEERS = ("CHANGELOG.md", "docs/CODEC.md", *(f"docs/proofs/{it}.md" for it in (
+    "DECISIONS", "DEFINITIONS", "ENGINEERING", "FIGURES")))
 PROMISE = re.compile(
     r"\b(?:never|always|charged\s+once|credited\s+once|exactly\s+once|acts?\s+once|counts\s+once"
     r"|(?:nothing|none|no\s\w+)\b[^.;|]{0,40}?\bis\s+lost|loses\s+nothing|not\s+lost"
@@ -103,10 +104,11 @@ def check_whole(checker):
 
 def check(checker):
     check_whole(checker)
-    for checker.page in [*map(page_of, OPERATORS), *OTHERS]:
-        blocks = checker.pages.get(checker.page, [])
-        kept = made_lines(text_of(checker.page)) if blocks else ()
-        for block in blocks:
+    for checker.page in sorted(set(checker.pages) - set(ENGINEERS)):
+        if checker.page.startswith("site/"):
+            continue
+        kept = made_lines(text_of(checker.page))
+        for block in checker.pages[checker.page]:
             if block.kind in ("text", "row") and block.line not in kept:
                 check_block(checker, block)
 
