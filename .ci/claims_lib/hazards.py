@@ -9,7 +9,7 @@ from claims_lib.tree import text_of
 
 KEPT = {
     "README.md": (
-        "until a session is carried forward",
+        "until its session is carried forward",
         "Reports are signed, not encrypted",
     ),
     "docs/CODEC.md": ("no call tests them for you",),
