@@ -12,38 +12,30 @@ sys.path.append(os.path.join(ROOT, "etc"))
 from radacctl import names
 
 # As a file of vouchers spells them: % and two digits are one octet.
-MAY = ["al", "Al", "Mueller-1127", "anna maria", "-x", "=x", "+49 170 1", "@home", "a'b", "a,b"]
-MAY += ["müller", "Łódź", "王", "a%25b", "{x}", "O\u2019Neil", "1E5", "123456789012", "E+1"]
-MAY += ["a\\b", "x" * 253, "a\u00a0b", "1.2.3E+4", "a\u200db"]
+MAY = ["al", "Al", "Mueller-1127", "anna maria", "a.b@c_d", "_x", "x" * 60, "%D1%8F" * 30]
+MAY += ["müller", "Łódź", "王", "1E5", "123456789012", "1.2.3"]
 MAY_NOT = {
     "": "it has 0 octets",
-    "x" * 254: "it has 254 octets",
+    "x" * 61: "it has 61 octets",
+    "я" * 31: "it has 62 octets",
     "%FF": "not UTF-8",
     "M%FCller": "not UTF-8",
     "%ED%A0%80": "not UTF-8",
-    "a%00": "a control character",
-    "a%0Ab": "a control character",
-    "a%09b": "a control character",
-    "a%7Fb": "a control character",
-    " al": "a space",
-    "al ": "a space",
-    "al%C2%A0": "a space",
-    "\u2003al": "a space",
-    "%EF%BB%BFal": "a space",
-    "al\u200f": "a mark",
-    "\u200eal": "a mark",
-    "al\u200b": "a mark",
-    "al\u00ad": "a mark",
-    "\u202eal": "a mark",
-    "al\u2069": "a mark",
-    "'anton": "an apostrophe",
-    "''": "an apostrophe",
-    "a%{User-Name}": "%{",
-    "%25{": "%{",
-    "%%7B": "%{",
-    "1.23457E+11": "rounded",
-    "1,23457E+11": "rounded",
-    "12E+10": "rounded",
+    **{f"a{it}b": f"it has {it}," for it in "+'#&?;\"\\,=/|"},
+    "a%25b": "it has %25,",
+    "a%00": "it has %00,",
+    "a%0Ab": "it has %0A,",
+    "a%7Fb": "it has %7F,",
+    "a\u00a0b": "it has %C2%A0,",
+    "\u2003al": "it has %E2%80%83,",
+    "%EF%BB%BFal": "it has %EF%BB%BF,",
+    "al\u200b": "it has %E2%80%8B,",
+    "1.23457E+11": "it has +,",
+    " al": "begins with a space",
+    "al ": "ends with a space",
+    "-x": "begins with",
+    "@home": "begins with",
+    "..": "begins with",
 }
 
 
@@ -64,12 +56,9 @@ def faults_of_cells():
     """Texts that a file for people does not bring back, or that are formulas in it."""
     rests = ("", "=1", "+1", "-1", "a")
     texts = [start + rest for start in ("", "'", "''", "'''") for rest in rests]
-    texts += [f"{start}{mark}{rest}" for start in ("a", "=a", "") for mark in ";|" for rest in texts]
-    for text in [*texts, "@x", "\tx", "\rx", "a=b", "Łódź", "'\t", "a;b", "a%3Bb", ";;=1"]:
+    for text in [*texts, "@x", "\tx", "\rx", "a=b", "Łódź", "'\t"]:
         written = names.cell(text)
-        # A spreadsheet of another country separates fields by ; or, if it is told so, by |.
-        parts = [*written.split(";"), *written.split("|")]
-        if names.text_of_cell(written) != text or any(it[:1] in FORMULA for it in parts if it):
+        if names.text_of_cell(written) != text or written[:1] in FORMULA:
             yield text, written
 
 
@@ -87,11 +76,11 @@ def test_found(prefix):
     folder = os.path.join(prefix, "libexec", "radacctd")
     tool = os.path.join(prefix, "sbin", "radacctl")
     with tempfile.NamedTemporaryFile("w", suffix=".csv") as file:
-        file.write("account,sum,number\n'anton,5,FEE-1\n")
+        file.write("account,sum\nanna+ben,5\n")
         file.flush()
-        words = [tool, "debit", "--file", file.name]
+        words = [tool, "allow", "--month", "2026-12", "--dry-run", file.name]
         done = subprocess.run(words, capture_output=True, text=True, cwd="/")
-    said = "record 2: the account `'anton` is not taken from a file: it begins with an apostrophe"
+    said = "record 2: the account `anna+ben` is not taken: it has +, and a name has"
     found = done.returncode, said in done.stderr, "__pycache__" in os.listdir(folder)
     check("an installed tool has the rule of names", found, (1, True, False))
 
@@ -106,7 +95,7 @@ TABLE += "callingstationid,acctterminatecause,framedipaddress,class\n"
 def test_moved(folder):
     """Balances of another system: what a spreadsheet made of a name is listed, not credited."""
     os.mkdir(folder)
-    rows = "account,balance\nal,10\n'anton,20\n'=x,30\n1.2E+11,5\n"
+    rows = "account,balance\nal,10\na'nton,20\n_x,30\n1.2E+11,5\n"
     for name, text in (("site", SITE), ("table", TABLE), ("balances", rows)):
         with open(f"{folder}/{name}", "w", encoding="utf-8") as file:
             file.write(text)
@@ -116,9 +105,9 @@ def test_moved(folder):
     words += ["--balances", f"{folder}/balances", "--vouchers", f"{folder}/vouchers"]
     done = subprocess.run(words, capture_output=True, text=True)
     listed = [it for it in done.stdout.splitlines() if it.startswith("account ")]
-    wanted = ["account 'anton: no voucher of 20: ", "account 1.2E+11: no voucher of 5: "]
+    wanted = ["account a'nton: no voucher of 20: ", "account 1.2E+11: no voucher of 5: "]
     found = [line.startswith(it) for line, it in zip(listed, wanted)]
     check("odd names of another system are listed", (done.returncode, found), (1, [True, True]))
     with open(f"{folder}/vouchers", encoding="ascii") as file:
         made = sorted(line.split(",", 1)[1] for line in file.read().splitlines()[1:])
-    check("and the others moved", made, ["=x,30", "al,10"])
+    check("and the others moved", made, ["_x,30", "al,10"])

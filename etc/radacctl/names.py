@@ -9,11 +9,11 @@ import os
 import time
 
 from radacctd_site.core.names import (
-    FORMULA, INNER, INNER_SPELLED, LONGEST, LONG_NUMBER, PLAIN, UNSEEN, WrongFile, cell, for_desk,
-    octets_of, readable, records_in, shown, text_of_cell, why_not)
+    WrongFile, cell, for_desk, octets_of, readable, records_in, shown, text_of_cell, why_not)
 from radacctl import files, program, site
 
-# The header of a file of balances.
+# How many octets an attribute of RADIUS has, and the header of a file of balances.
+LONGEST = 253
 BALANCES = ["account", "balance", "overrun"]
 # In seconds: how long newer balances are awaited.
 WRITTEN = 90

@@ -11,7 +11,7 @@ import os
 import unicodedata
 import urllib.parse
 
-from radacctd_site.core import Failed, names
+from radacctd_site.core import Failed, features, names
 
 BALANCES = os.environ.get("RADACCTD_BALANCES", "/var/lib/radacctd-balances/balances.csv")
 HEADER = ["account", "balance", "overrun"]
@@ -58,6 +58,17 @@ def told(book, account, question):
     path = f"/accounts/{urllib.parse.quote(account, safe='')}/{question}"
     status, found = book.look(path)
     return found[question] if status == 200 else None
+
+
+def plain(text, **values):
+    """A text that nobody translates."""
+    return text % values
+
+
+def refused(db, account, text=plain):
+    """Why a feature has nothing sold to an account, by what makes texts for its reader, or None."""
+    return next(filter(None, (does(db, account, text) for does in features.functions("REFUSES"))),
+                None)
 
 
 def folded(text):

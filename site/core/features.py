@@ -7,6 +7,7 @@ Nothing else names a feature, so one whose folder is removed is gone. A feature.
     MENU       what the menu of each page has: each an Entry
     TABLES     its tables in site.db
     EACH_MINUTE  what is done each minute, by the name of a function
+    REFUSES    why nothing is sold to an account, by the name of a function
     PACKAGES   of Debian, which the set-up installs
     UNITS      which the set-up enables
     SETUP      its part of the set-up: a module that may have packages(answers), files(answers,
@@ -74,6 +75,7 @@ def pages():
             for page in getattr(it, "PAGES", ())]
 
 
-def each_minute():
-    return [function(feature, it.EACH_MINUTE) for feature, it in features().items()
-            if hasattr(it, "EACH_MINUTE")]
+def functions(member):
+    """The function that each feature names."""
+    return [function(name, getattr(it, member)) for name, it in features().items()
+            if hasattr(it, member)]

@@ -20,7 +20,7 @@ def main(words):
     places.become_user()
     with store.opened() as db:
         done = acts.again(db, book)
-        for does in features.each_minute():
+        for does in features.functions("EACH_MINUTE"):
             does(db, book)
         late = acts.waiting(db, time.time() - LONGEST)
     if done:

@@ -1,9 +1,8 @@
-"""Which names an account may have, and how files and requests spell them.
-
-FreeRADIUS and the pages have the same rule (docs/reference/files.md).
+"""Which names are sold to, and how files and requests spell the names of accounts.
 
 A name is octets, and two names are one only if each octet is the same. A text spells an octet as
-itself, or as % and two hexadecimal digits.
+itself, or as % and two hexadecimal digits. The book may have other names than are sold to: they are
+found and shown like any other.
 """
 
 import csv
@@ -14,21 +13,13 @@ import urllib.parse
 
 from radacctd_site.core import Failed, told
 
-LONGEST = 253
+# What is sold to: FreeRADIUS' tables find it, and a stamp has space for it (docs/FILES.md).
+LONGEST = 60
+FIRST, OTHER = re.compile(r"\w"), re.compile(r"[^\w .@-]")
 # What the desk takes as itself; any other octet is % and two digits there.
 PLAIN = frozenset(string.printable[:95].encode()) - frozenset(b'%"\\')
-# Unicode's white space, and marks that nobody sees: they come along if a name is copied. One says
-# in which direction a text goes, say, or begins a file.
-UNSEEN = frozenset(map(chr, [*range(9, 14), 0x20, 0x85, 0xA0, 0xAD, 0x1680, 0x3000, 0xFEFF]))
-UNSEEN |= frozenset(map(chr, [*range(0x2000, 0x2010), *range(0x2028, 0x2030)]))
-UNSEEN |= frozenset(map(chr, range(0x205F, 0x206A)))
-# How Excel writes a number of more than 11 digits: with the point of English, the comma of German.
-LONG_NUMBER = re.compile(r"[0-9]+(?:[.,][0-9]+)?E\+[0-9]+")
 # What makes a field a formula, in spite of apostrophes before it.
 FORMULA = re.compile(r"'*[=+\-@\t\r]")
-# The same behind what separates fields for a spreadsheet of another country; and as it is written.
-INNER = re.compile(r"[;|](?=[=+\-@\t\r])")
-INNER_SPELLED = re.compile(r"%(?:3B|7C)(?=[=+\-@\t\r])")
 
 
 class WrongFile(Failed):
@@ -38,6 +29,11 @@ class WrongFile(Failed):
 def octets_of(text):
     """The octets of a name as a file or a command line spells it."""
     return urllib.parse.unquote_to_bytes(text.encode("utf-8", "surrogateescape"))
+
+
+def octets_typed(text):
+    """The octets of a name that a person typed at a page: each letter is itself."""
+    return text.encode("utf-8", "surrogateescape")
 
 
 def shown(octets):
@@ -60,39 +56,31 @@ def for_desk(octets):
 
 
 def why_not(name):
-    """Why an account may not have a name, octets or a text of them, or None if it may.
+    """Why nothing is sold to a name, octets or a text of them, or None if it may be.
 
-    Such a name could not log in, or is the work of a spreadsheet.
+    FreeRADIUS' tables would not find it, so that nobody could log in by it.
     """
-    octets = name if isinstance(name, bytes) else name.encode("utf-8", "surrogateescape")
+    octets = name if isinstance(name, bytes) else octets_typed(name)
     if not 1 <= len(octets) <= LONGEST:
         return f"it has {len(octets)} octets, not 1 to {LONGEST}"
     try:
         text = octets.decode("utf-8")
     except UnicodeDecodeError:
         return "it is not UTF-8"
-    if any(it < 32 or it == 127 for it in octets):
-        return "it has a control character"
-    if text[0] in UNSEEN or text[-1] in UNSEEN:
-        return "it begins or ends with a space, or with a mark that nobody sees"
-    if text[0] == "'":
-        return "it begins with an apostrophe, as a spreadsheet marks a text"
-    if "%{" in text:
-        return "it has %{, which FreeRADIUS would expand"
-    if LONG_NUMBER.fullmatch(text):
-        return "a spreadsheet has rounded it: give the column the type text"
+    if other := OTHER.search(text):
+        return f"it has {shown(other[0].encode())}, and a name has letters, digits, spaces and . _ @ -"
+    if not FIRST.match(text) or text.endswith(" "):
+        return "it begins with a space or . @ -, or ends with a space"
     return None
 
 
 def cell(text):
-    """A field of a CSV file for people: no spreadsheet takes it, or a part of it, for a formula."""
-    text = INNER.sub(lambda it: f"%{ord(it[0]):02X}", text)
+    """A field of a CSV file for people: no spreadsheet takes it for a formula."""
     return "'" + text if FORMULA.match(text) else text
 
 
 def text_of_cell(field):
     """What a field of a CSV file for people says."""
-    field = INNER_SPELLED.sub(lambda it: urllib.parse.unquote(it[0]), field)
     return field[1:] if field[:1] == "'" and FORMULA.match(field) else field
 
 

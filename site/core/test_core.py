@@ -322,7 +322,9 @@ class Money(Site):
         self.assertEqual(it.shown(-123456), "-1234.56 EUR")
 
     def test_names(self):
-        for name in ("", "\x01a", " a", "a\u200b", "'a", "%{x}", "1.23457E+11", "a" * 254, b"\xff"):
+        for name in ("", "\x01a", " a", "a ", "a\u200b", "%{x}", "1.23457E+11", "a" * 61, "я" * 31,
+                     "-a", "@a", ".", "..", b"\xff", b"a\0", "ä\n", "a\u00a0b", "e\u0301",
+                     *(f"a{it}b" for it in "+'#&?;%\"\\/,=<>|:")):
             self.assertIsNotNone(names.why_not(name), name)
-        for name in ("al", "room 12", "müller", "a%b"):
+        for name in ("al", "room 12", "müller", "a.b-c_d@e", "Łódź", "王", "_x", "1" * 60, "я" * 30):
             self.assertIsNone(names.why_not(name), name)

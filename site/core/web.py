@@ -17,7 +17,7 @@ import urllib.parse
 import bottle
 import jinja2
 
-from radacctd_site.core import Failed, features, money, people, places, store
+from radacctd_site.core import Failed, accounts, features, money, names, people, places, store
 from radacctd_site.core.features import ANYBODY, NOBODY, STAFF, TOP
 
 COOKIE, LANGUAGES = "__Host-radacctd", {"en": "English", "de": "Deutsch", "fr": "Français"}
@@ -73,6 +73,14 @@ class Visit:
         """A text in the reader's language."""
         found = texts(self.language).gettext(text)
         return found % values if values else found
+
+    def why_not(self, account):
+        """Why nothing is sold to an account, as its reader understands it, or ""."""
+        if names.why_not(account):
+            return self.text(
+                "Nobody can log in as %(name)s. A name begins with a letter or a digit. It has at most "
+                "60 letters, digits, spaces and . _ @ -", name=account)
+        return accounts.refused(self.db, account, self.text) or ""
 
     def set_token(self, token):
         self.token = token

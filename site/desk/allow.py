@@ -51,11 +51,12 @@ def main(words):
     if not MONTH.fullmatch(words.month):
         raise Failed(f"a month is as 2026-12, not {words.month}")
     # All of it is read as whoever gave the command.
-    site, book = money.of_site(places.SETTINGS), places.book()
+    site = money.of_site(places.SETTINGS)
     found = acts_of(words.list, words.month, words.sum, site)
     if words.dry_run:
         print(f"{len(found)} accounts, {site.shown(sum(it.sum for it in found))} together")
         return 0
+    book = places.book()
     places.become_user()
     with store.opened() as db:
         sell.sell(db, book, found)

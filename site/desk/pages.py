@@ -37,17 +37,14 @@ def sell(visit):
 
 def wrong(visit, account, total):
     """What is wrong with a name or a sum, as a cashier reads it."""
-    if names.why_not(account):
-        return visit.text("No account can have this name. Type it, do not copy it.")
-    if total is None:
-        return visit.text("The sum is wrong. Write it as %(sum)s.", sum=visit.money().plain(500))
-    return ""
+    return visit.why_not(account) or (total is None and visit.text(
+        "The sum is wrong. Write it as %(sum)s.", sum=visit.money().plain(500))) or ""
 
 
 def asked(visit, account, total, number):
     """The question before a sale. A name that the book does not know is shown with similar ones."""
     known, _ = accounts.known()
-    balance = known.get(account.encode("utf-8", "surrogateescape"))
+    balance = known.get(names.octets_typed(account))
     near = [] if balance is not None else accounts.like(account, known)
     return visit.page("desk/sure.html", account=account, total=total, number=number,
                       text=visit.field("sum"), balance=balance, known=bool(known), near=near)
@@ -97,7 +94,7 @@ def find(visit):
     """An account that is named whole; or those whose names have a text."""
     text = (visit.request.query.getunicode("account") or "").strip()
     known, moment = accounts.known()
-    octets = text.encode("utf-8", "surrogateescape")
+    octets = names.octets_typed(text)
     it = seen(visit.db, octets, known) if text else None
     near = accounts.like(text, known) if text and it is None else []
     return visit.page("desk/find.html", text=text, it=it, moment=moment, near=near)

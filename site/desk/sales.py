@@ -32,7 +32,7 @@ def is_number(text):
 
 
 def sale_of(number, account, total, who):
-    return Act(number, names.for_desk(account.encode("utf-8", "surrogateescape")), total, SALE, who)
+    return Act(number, names.for_desk(names.octets_typed(account)), total, SALE, who)
 
 
 def found(db, number, who, role):

@@ -11,7 +11,7 @@ import collections
 import datetime
 import sys
 
-from radacctd_site.core import Failed, acts, desk, money, names, places, store
+from radacctd_site.core import Failed, accounts, acts, desk, money, names, places, store
 from radacctd_site.core.acts import Act
 from radacctd_site.desk import sales
 
@@ -62,7 +62,10 @@ def asked(words):
 
 
 def sell(db, book, found):
-    """Writes all, and then sends each."""
+    """Writes all, and then sends each, unless something of it may not be sold."""
+    for it in found:
+        if why := accounts.refused(db, names.readable(it.account)):
+            raise Failed(f"nothing was sold: {why}")
     with db:
         acts.begin(db, found)
     refused, counts = [], collections.Counter()

@@ -40,7 +40,7 @@ def make(db, book, key, words):
     count, worth = words.count, site.shown(package.sum)
     if not 1 <= count <= logins.MOST or words.name and count != 1:
         raise Failed(f"make 1 to {logins.MOST} codes, or one name")
-    if words.name and (why := logins.why_not(words.name)):
+    if words.name and (why := names.why_not(words.name) or logins.refuses(db, words.name)):
         raise Failed(f"{words.name} cannot be a name: {why}")
     if count > ASK_COUNT or count * package.sum > ASK_TOTAL * 10**site.decimals:
         cli.confirm(f"{count} codes of {worth}, {site.shown(count * package.sum)} together?",

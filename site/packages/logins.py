@@ -44,11 +44,15 @@ def drawn(digest_key, package, code, who, name="", sheet=""):
                  int(time.time()))
 
 
-def why_not(name):
-    """Why nobody may log in by a name, or None. A stamp has three octets for most of the name's."""
-    if not packages.PLAIN.fullmatch(name) or len(name.encode()) > 60:
-        return "it has more than 60 octets, or others than letters, digits, spaces and . _ @ -"
-    return "it is a code" if codes.read(name) else names.why_not(name)
+def refuses(db, account, text=accounts.plain):
+    """Why nothing is sold to an account: it is a code, or its login has ended. Else None."""
+    if codes.read(account):
+        return text("%(account)s is a code. Its account is the number below it on the card, as "
+                    "c-0123456789ab.", account=account)
+    if db.execute("SELECT 1 FROM login WHERE account = ? AND ended IS NOT NULL",
+                  (account,)).fetchone():
+        return text("%(account)s has ended: nobody logs in by it any more.", account=account)
+    return None
 
 
 def make(db, book, made):

@@ -48,8 +48,8 @@ def changes_of(words):
     """What the options change."""
     found, site = {}, money.of_site(places.SETTINGS)
     if words.plan is not None:
-        if not packages.PLAIN.fullmatch(words.plan):
-            raise Failed(f"{words.plan} is no plan: letters, digits, spaces and . _ @ -")
+        if why := names.why_not(words.plan):
+            raise Failed(f"{words.plan} is no plan: {why}")
         found["plan"] = words.plan
     if words.sum is not None:
         found["sum"] = 0 if words.sum == "no" else site.units(words.sum)

@@ -10,8 +10,6 @@ import time
 from radacctd_site.core import Failed
 
 NAME = re.compile("[a-z0-9][a-z0-9-]{0,23}")
-# What FreeRADIUS looks up as it is: a plan, or the name of a login.
-PLAIN = re.compile(r"\w[\w .@-]{0,59}")
 SPEED, RATE = re.compile("([0-9]{1,7})([kM])/([0-9]{1,7})([kM])"), {"k": 1, "M": 1000}
 SPAN, UNITS = re.compile("([0-9]{1,9})([smhd]?)"), {"": 1, "s": 1, "m": 60, "h": 3600, "d": 86_400}
 LONGEST, FASTEST, MOST_DEVICES = 3660 * 86_400, 10_000_000, 1000

@@ -30,9 +30,8 @@ def make(visit):
     package, code = packages.for_sale(visit.db, package), codes.read(visit.field("code"))
     if code is None or total != str(package.sum):
         return form(visit, visit.text("The package has changed. Nothing was sold."), "danger", 409)
-    if name and logins.why_not(name):
-        return form(visit, visit.text("Nobody can log in by this name. Nothing was sold."),
-                    "danger", 422)
+    if why := name and visit.why_not(name):
+        return form(visit, why, "danger", 422)
     made = logins.drawn(logins.key(), package, code, visit.name, name)
     logins.make(visit.db, places.book(), [made])
     return web.lead(f"/packages/{paper.quoted(made.account)}")

@@ -8,7 +8,8 @@ import time
 import unittest
 from unittest import mock
 
-from radacctd_site.core import Failed, accounts, acts, codes, corrections, desk, minute, store
+from radacctd_site.core import (
+    Failed, accounts, acts, codes, corrections, desk, features, minute, store)
 from radacctd_site.core.features import CASHIER, OPERATOR
 from radacctd_site.core.test_client import Browser, Site
 from radacctd_site.packages import logins, packages, setup, users
@@ -169,8 +170,6 @@ class Selling(Packages):
         with mock.patch.object(accounts, "BALANCES", f"{self.folder}/none.csv"):
             self.assertRaisesRegex(Failed, "none.csv", self.make, name="bo")
         self.assertEqual(len(self.book.credits), 1)
-        for name in (CODE, "a'b", "a%b", "a/b", " a", "", "ä\n", "я" * 31):
-            self.assertIsNotNone(logins.why_not(name), name)
 
     def test_it_logs_in_once_the_book_has_the_sum(self):
         self.book.is_away = True
@@ -357,6 +356,24 @@ class StaffsPage(Packages):
         for fields, status in (({"act": "end", "what": "x"}, 404), ({"act": "x"}, 422)):
             self.assertEqual(browser.post("/packages/", **fields), status)
         self.assertEqual(self.book.asked, [])
+
+    def test_nothing_is_sold_to_a_code_and_to_a_login_that_has_ended(self):
+        one, browser = self.make(name="room 12"), self.browser(CASHIER)
+        self.write_balances()
+        self.assertIsNone(accounts.refused(self.db, "room 12"))
+        logins.end(self.db, [one.account])
+        sold, paths = [*self.book.asked], {it.path for it in features.listed("PAGES")}
+        for name, text in (("room 12", "room 12 has ended"), (CODE, "is a code"), ("a'b", "log in")):
+            self.assertEqual(self.sell(browser, name=name), 422)
+            self.assertIn(text, browser.text)
+            for path in {"/desk/", "/redeem/"} & paths:
+                for fields in ({}, {"sure": "yes", "number": f"S-{codes.new()}"}):
+                    self.assertEqual(browser.post(path, account=name, sum="5", code=codes.new(),
+                                                  **fields), 422)
+                    self.assertIn(text, browser.text)
+        for command in {"sell"} & set(features.commands()):
+            self.assertRaisesRegex(Failed, "room 12 has ended", self.run_it, command, "room 12", "5")
+        self.assertEqual(self.book.asked, sold)
 
     def test_who_waits_is_said(self):
         browser = self.browser(CASHIER)

@@ -42,10 +42,11 @@ GUESTS = ("alice", "bob", "müller", "room 12")
 # What redeems one code and prints what the book said: a process of its own, which can be killed.
 ONE = """
 import sys
-from radacctd_site.core import places, store
+from radacctd_site.core import names, places, store
 from radacctd_site.vouchers import vouchers
 with store.opened() as db:
-    print(*vouchers.redeem(db, places.book(), *sys.argv[1:]), sep=",")
+    account = names.octets_typed(sys.argv[1])
+    print(*vouchers.redeem(db, places.book(), account, sys.argv[2]), sep=",")
 """
 
 

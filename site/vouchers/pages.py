@@ -20,19 +20,18 @@ def asked(visit, account="", code="", said="", status=200):
 def redeem(visit):
     """Asks whether it is the right account, and then redeems the code."""
     account, code = visit.field("account"), visit.field("code")
+    if why := visit.why_not(account):
+        return asked(visit, account, code, why, 422)
     if not visit.field("sure"):
-        read = codes.read(code)
-        if names.why_not(account) or read is None:
-            return asked(visit, account, code, *text_of(
-                visit, "bad code" if read is None else "bad account", account, 0))
+        if (read := codes.read(code)) is None:
+            return asked(visit, account, code, *text_of(visit, "bad code", account, 0))
         return visit.page("vouchers/sure.html", account=account, code=read)
     if visit.field("sure") == "no":
         return asked(visit, account, code)
     address = people.network_of(visit.address)
     if not people.may_try(visit.db, "code", address):
         return asked(visit, account, code, visit.text("Too many tries: wait a minute."), 429)
-    name = names.shown(account.encode("utf-8", "surrogateescape"))
-    said, total = vouchers.redeem(visit.db, places.book(), name, code)
+    said, total = vouchers.redeem(visit.db, places.book(), names.octets_typed(account), code)
     if said != "no such code":
         people.forget_try(visit.db, "code", address)
     text, status = text_of(visit, said, account, total)
@@ -54,8 +53,6 @@ def text_of(visit, said, account, total):
                          404),
         "bad code": (text("A letter of the code is wrong. Look at the voucher again: it has 15 "
                           "letters and digits."), 422),
-        "bad account": (text("No account can have this name. Type the name with which you log in."),
-                        422),
     }.get(said, (text("The accounts cannot be reached now. Wait a minute, then redeem it again for "
                       "the same account. Nothing is lost."), 503))
 

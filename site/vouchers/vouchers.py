@@ -54,19 +54,18 @@ def make(db, count, total):
 
 
 def redeem(db, book, account, text):
-    """What became of a guest's code, and the sum of it: what the book said, or why it was not asked.
+    """What became of a guest's code for an account's octets, and the sum of it: what the book said,
+    or why it was not asked.
     """
     code = codes.read(text)
     if code is None:
         return "bad code", 0
-    if names.why_not(names.octets_of(account)):
-        return "bad account", 0
     row = db.execute("SELECT sum FROM code WHERE code = ? AND withdrawn IS NULL",
                      (code,)).fetchone()
     if row is None:
         return "no such code", 0
-    spelled = names.for_desk(names.octets_of(account))
-    return acts.do(db, book, Act(number_of(code), spelled, row["sum"], REDEEM, "")), row["sum"]
+    act = Act(number_of(code), names.for_desk(account), row["sum"], REDEEM, "")
+    return acts.do(db, book, act), row["sum"]
 
 
 def named(db, what):
