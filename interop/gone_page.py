@@ -18,11 +18,12 @@ URL, RESOLVED = f"https://{HOST}", ("--resolve", f"{HOST}:443:127.0.0.1")
 USER = ("INSERT INTO radcheck (username, attribute, op, value) VALUES "
         "('al', 'Cleartext-Password', ':=', 'al-pass')")
 BLOCK = 10_000_000
+TAKEN = "voucher,account,sum\\nVOID-A-2,bo,-7\\n"
 # What a site has in files of its own, which must be as it was, with owner and rights.
 FILES = [CONFIG, "/etc/default/radacctd", "/etc/radacctd-*.key", "/etc/radacctd-books.secret"]
 FILES += ["/etc/radacctd-web/*.json", "/etc/nginx/conf.d/*"]
 FILES += [f"{FRONT}/*", f"{FRONT}/certs/*", f"{FRONT}/secrets/*", "/etc/ssl/radacctd.pem"]
-FILES += ["/etc/ssl/private/radacctd.key", "/var/lib/radacctd-books/*"]
+FILES += ["/etc/ssl/private/radacctd.key"]
 UNITS = ["radacctd", "radacctd-front", "radacctd-cut", "radacctd-site.socket", "nginx"]
 UNITS += ["radacctd-copy.timer", "radacctd-key.timer", "radacctd-minute.timer"]
 
@@ -92,7 +93,7 @@ class Asking:
         found["sheets"] = [box.must(f"radacctl voucher list {it}") for it in ("", *self.sheets)]
         found["persons"] = box.must("radacctl person list")
         found["keys"] = box.must("radacctl key list")
-        found["debits"] = box.must("radacctl debit --list")
+        found["sales"] = box.must("radacctl sales --first 2020-01-01 --csv")
         found["groups"] = sorted(box.must("getent group radacctd-balances").strip()
                                  .rsplit(":", 1)[1].split(","))
         found["units"] = [box.run(f"systemctl is-active {it}")[1].strip() for it in UNITS]
@@ -119,7 +120,7 @@ class Lost(Asking):
         waits_for("all units run", lambda: box.run("systemctl --failed -q --no-legend")[1], "", 60)
 
     def use(self):
-        """Sales, reports, codes, keys and debits."""
+        """Sales, reports, codes, keys, and money that is taken back."""
         box = self.box
         text = "voucher,account,sum\\nA-1,al,500\\nA-2,bo,70\\n"
         box.must(f"printf '{text}' | radacctl sell")
@@ -134,8 +135,8 @@ class Lost(Asking):
         box.must(f"radacctl voucher withdraw --yes {self.sheets[1]}")
         told = box.must("radacctl key new al --days 300")
         self.key = told.split(" ")[-1].strip()
-        box.must("radacctl debit bo 7 VOID-A-2 2>&1")
-        waits_for("the debit", lambda: "bo,63,0" in box.must(f"cat {BALANCES}"), True, 60)
+        box.must(f"printf '{TAKEN}' | radacctl sell")
+        waits_for("money is taken", lambda: "bo,63,0" in box.must(f"cat {BALANCES}"), True, 60)
         waits_for("al logs in", self.may_log_in, True, 30)
 
     def copy_to(self, folder):
@@ -215,8 +216,8 @@ class Again(Asking):
         check("a file is given again", "added 1, repeated 1, refused 0\n" in told, True)
         check("a report", self.report(4), True)
         waits_for("is charged", lambda: "al,526,0" in box.must(f"cat {BALANCES}"), True, 60)
-        box.must("radacctl debit bo 7 VOID-A-2 2>&1")
-        told = box.run("radacctl debit cy 7 VOID-A-2")
-        check("a debit's number is known", (told[0], "was given before" in told[1]), (1, True))
+        box.must(f"printf '{TAKEN}' | radacctl sell")
+        told = box.run(f"printf '{TAKEN}' | sed s/bo/cy/ | radacctl sell")
+        check("its number is known", (told[0], "has taken another sum" in told[1]), (1, True))
         box.must("radacctl copy")
         told = box.must("printf 'voucher,account,sum\\nB-1,cy,60\\nB-2,cy,1\\n' | radacctl sell")

@@ -115,7 +115,6 @@ EXPLAINED = {
     "doctor": "[DOCTOR](DOCTOR.md)",
     "key": "[DESK](DESK.md#keys-and-cards)",
     "sell": "[VOUCHERS](VOUCHERS.md#credit-a-file-of-vouchers)",
-    "debit": "[VOUCHERS](VOUCHERS.md#take-money-back)",
     "voucher": "[DESK](DESK.md#printed-vouchers)",
     "person": "[DESK](DESK.md#put-a-proxy-in-front)",
     "minute": "[DESK](DESK.md#what-sells)",

@@ -4,13 +4,12 @@ import contextlib
 import io
 import os
 import subprocess
-import tempfile
 import tomllib
 import unittest
 from unittest import mock
 
-from radacctl import configuration, debits, files, keys, main, stock
-from radacctl.commands import debit, key
+from radacctl import configuration, files, keys
+from radacctl.commands import key
 from tool_tests import ROOT, Folder
 
 CONFIG = '''# A site.
@@ -57,82 +56,6 @@ class Keys(unittest.TestCase):
     def test_what_is_made_and_ended_again_is_as_it_was(self):
         block = '# radacctd-key: made 2026-11-27\n[[key]]\ntoken = "t"\naccount = "x"\n'
         self.assertEqual(keys.without(keys.with_more(CONFIG, block), {"t"}), CONFIG)
-
-
-class DebitCommand(unittest.TestCase):
-    """What the command ends with, whoever sends the debits."""
-
-    def ends(self, words, take=None):
-        books = mock.Mock(take=mock.Mock(side_effect=take, return_value=False))
-        with tempfile.TemporaryDirectory() as folder, contextlib.redirect_stdout(io.StringIO()), \
-                contextlib.redirect_stderr(io.StringIO()), \
-                mock.patch.object(debits, "Books", lambda _: books):
-            path = os.path.join(folder, "debits.csv")
-            with open(path, "w", encoding="utf-8") as file:
-                file.write("account,sum,number\nal,5,V-1\nbo,6,V-2\n")
-            status = main.run(debit, [it.format(path) for it in words])
-        return status, [it.args for it in books.take.call_args_list]
-
-    def test_statuses(self):
-        one, each = ["al", "5", "V-1"], ["--file", "{}"]
-        al, bo = (b"al", 5, "V-1"), (b"bo", 6, "V-2")
-        self.assertEqual(self.ends(one), (0, [al]))
-        self.assertEqual(self.ends(each), (0, [al, bo]))
-        self.assertEqual(self.ends(one, debits.Refused("no")), (1, [al]))
-        self.assertEqual(self.ends(each, [debits.Refused("no"), False]), (1, [al, bo]))
-        self.assertEqual(self.ends(one, debits.NoAnswer("none")), (3, [al]))
-        self.assertEqual(self.ends(each, debits.NoAnswer("none")), (3, [al]))
-        self.assertEqual(self.ends(["--list", "--journal", "{}.none"]), (1, []))
-        self.assertEqual(self.ends(["--file", "{}.none"]), (1, []))
-
-
-class Debits(unittest.TestCase):
-    """A sale is taken back once: at the page, or by hand with VOID- or REFUND- before its number."""
-
-    def test_of_both_numbers_the_first_one_counts(self):
-        for first, second, third in (
-            ("D1-1", "VOID-D1-1", "VOID-D1-2"), ("VOID-D1-1", "D1-1", "REFUND-D1-1"),
-            ("D1-1", "REFUND-D1-1", "REFUND-D1-2"), ("REFUND-D1-1", "D1-1", "VOID-D1-1"),
-        ):
-            with tempfile.TemporaryDirectory() as folder:
-                books = debits.Books.__new__(debits.Books)
-                books.journal = debits.Journal(os.path.join(folder, "debits.csv"))
-                books.secret, books.is_answered = b"s", lambda packet: True
-                with contextlib.redirect_stdout(io.StringIO()):
-                    books.take(b"al", 500, first)
-                    self.assertRaises(debits.Refused, books.take, b"al", 500, second)
-                    books.take(b"al", 500, third)
-                self.assertIsNone(books.journal.given(second))
-                books.journal.close()
-
-    def test_a_sale_at_the_pages_is_taken_back_there(self):
-        """Else it could be taken back twice: by its number there, and by another one by hand."""
-        for number in ("S-ACDEF-HJKMN-PQRTU", "VOID-S-ACDEF-HJKMN-PQRTU"):
-            self.assertRaisesRegex(ValueError, "taken back there", debit.debit_of, "al", "5", number)
-        self.assertEqual(debit.debit_of("al", "5", "VOID-S-1"), (b"al", 5, "VOID-S-1"))
-
-    def test_what_was_taken_before_is_said_to_be_so(self):
-        """Else who gives last month's numbers again believes that their sums were taken."""
-        with tempfile.TemporaryDirectory() as folder:
-            books = debits.Books.__new__(debits.Books)
-            books.journal = debits.Journal(os.path.join(folder, "debits.csv"))
-            books.secret, books.is_answered = b"s", lambda packet: True
-            for said in ("taken 1, before 0, refused 1\n", "taken 0, before 1, refused 1\n"):
-                with contextlib.redirect_stdout(io.StringIO()) as shown, \
-                        contextlib.redirect_stderr(io.StringIO()):
-                    debit.take_all(books, [(b"al", 5, "FEE-1"), (b"bo", 5, "FEE-1")])
-                self.assertTrue(shown.getvalue().endswith(said), shown.getvalue())
-                self.assertEqual("taken before" in shown.getvalue(), "before 1" in said)
-            books.journal.close()
-
-    def test_a_journal_that_another_run_has_is_not_waited_for_for_ever(self):
-        """Else a file of many debits would hold up cashiers, who make and check out guests."""
-        with tempfile.TemporaryDirectory() as folder, mock.patch.object(stock, "PATIENCE", 0.1):
-            path = os.path.join(folder, "debits.csv")
-            journal = debits.Journal(path)
-            self.assertRaises(stock.Fault, debits.Journal, path)
-            journal.close()
-            debits.Journal(path).close()
 
 
 class Cards(Folder):

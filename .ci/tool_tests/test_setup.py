@@ -9,7 +9,7 @@ import unittest
 from unittest import mock
 
 from radacctl import files, postgres, site as places
-from radacctl.commands import debit, setup
+from radacctl.commands import setup
 from radacctl.setup import alone, answers, steps, web
 import tool_tests
 
@@ -299,13 +299,6 @@ class Others(Folder):
             with open(path, encoding="ascii") as file:
                 self.assertEqual(file.read(), "*:*:*:*:a\\:b\\\\c\n")
         self.assertFalse(os.path.exists(path))
-
-    def test_a_list_that_is_no_csv_is_refused(self):
-        """With a field that never ends, and with ends of lines of an old Macintosh."""
-        for octets in (b'account,sum,number,code\n"' + b"x" * 200_000,
-                       b'account,sum,number,code\n"a"\rb,c,d\n', b"code\ra\rb"):
-            self.write(octets)
-            self.assertRaises(debit.names.WrongFile, debit.debits_of, self.path)
 
 
 if __name__ == "__main__":

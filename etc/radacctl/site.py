@@ -11,9 +11,8 @@ PLANS = f"{os.path.dirname(BALANCES)}/plans.csv"
 COUNTS = "/var/lib/radacctd-counts/radacctd.prom"
 BACKUPS = "/var/backups/radacctd"
 DEFAULTS = "/etc/default/radacctd"
-# What a machine of a pair has.
-# The journals of root's tools, and the secret of the client that takes debits.
-BOOKS, BOOKS_SECRET = "/var/lib/radacctd-books", "/etc/radacctd-books.secret"
+# The secret of the client that takes money back.
+BOOKS_SECRET = "/etc/radacctd-books.secret"
 RADDB = "/etc/freeradius/3.0"
 RADACCT = "/var/log/freeradius/radacct"
 # The users and groups of the service, of FreeRADIUS, of nginx, and of who reads balances.

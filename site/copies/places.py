@@ -23,7 +23,7 @@ STORES = {
     "/var/lib/radacctd-front/first.db": (site.RADIUS_USER, 0o700),
 }
 # What lies in folders that only root may write: configuration, secrets, certificates, notes of the
-# set-up, journals of root's tools.
+# set-up.
 ROOTS = [
     "/etc/radacctd*",
     "/etc/default/radacctd*",
@@ -34,7 +34,6 @@ ROOTS = [
     "/etc/ssl/private/radacctd.key",
     "/etc/letsencrypt",
     alone.NOTES,
-    site.BOOKS,
 ]
 
 

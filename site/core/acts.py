@@ -21,6 +21,7 @@ TABLES = """
 CREATE TABLE IF NOT EXISTS act (number TEXT NOT NULL, account TEXT NOT NULL, sum INTEGER NOT NULL,
     kind TEXT NOT NULL, who TEXT NOT NULL, paid INTEGER NOT NULL, begun INTEGER NOT NULL,
     answer TEXT, answered INTEGER, PRIMARY KEY (number, account, sum)) STRICT;
+CREATE UNIQUE INDEX IF NOT EXISTS act_back ON act (number) WHERE sum < 0;
 CREATE INDEX IF NOT EXISTS act_open ON act (begun) WHERE answer IS NULL;
 CREATE INDEX IF NOT EXISTS act_account ON act (account);
 CREATE INDEX IF NOT EXISTS act_who ON act (who);
@@ -33,10 +34,12 @@ SOLD, WAITING, REFUSED = "sold", "waiting", "refused"
 
 
 def begin(db, acts):
-    """Writes acts within a transaction of the caller's. One that is there stays as it is."""
+    """Writes acts within a transaction of the caller's. One that is there stays as it is. Of a second
+    correction by one number the book would take the difference: it is an IntegrityError.
+    """
     now = int(time.time())
     db.executemany("INSERT INTO act (number, account, sum, kind, who, paid, begun) "
-                   "VALUES (?, ?, ?, ?, ?, ?, ?) ON CONFLICT DO NOTHING",
+                   "VALUES (?, ?, ?, ?, ?, ?, ?) ON CONFLICT (number, account, sum) DO NOTHING",
                    [(*it[:5], it.sum if it.paid is None else it.paid, now) for it in acts])
 
 

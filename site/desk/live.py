@@ -241,13 +241,13 @@ class Chaos:
 
 def stepped(server, service):
     """`radacctl sell` is killed before each call that writes, or finds a full disk there."""
-    path, wrong, kills = f"{service.folder}/vouchers.csv", [], 0
+    path, wrong, kills, numbers = f"{service.folder}/vouchers.csv", [], 0, set()
     for what in ("signal=SIGKILL", "error=ENOSPC"):
         for call in ("fdatasync", "pwrite64", "sendto"):
             for when in range(1, 30):
-                number = f"F-{codes.letters(12).upper()}"
+                numbers.add(number := f"F-{codes.letters(12).upper()}")
                 with open(path, "w", encoding="ascii") as file:
-                    file.write(f"voucher,account,sum\n{number},alice,5\n")
+                    file.write(f"voucher,account,sum\n{number},alice,5\nB{number},bob,-2\n")
                 words = ["strace", "-f", "-qq", "-o", os.devnull, "-e", f"trace={call}", "-e",
                          f"inject={call}:{what}:when={when}", *service.words("sell")]
                 with open(path, encoding="ascii") as file:
@@ -262,10 +262,11 @@ def stepped(server, service):
                     break
     check("stopped as it sells: the next run does it, once", wrong, [])
     server.kill()
-    counts = collections.Counter(it for it in server.sold() if it[:2] == "F-")
+    sold = {it for it, of in server.sold().items() if it[:2] == "F-" and of == ("alice", 5)}
+    taken = {it[1:] for it, of in server.taken().items() if it[:3] == "BF-" and of == ("bob", 2)}
     server.start()
     check("it was stopped some times, and each is there once",
-          (kills > 10, set(counts.values())), (True, {1}))
+          (kills > 10, numbers - sold, numbers - taken), (True, set(), set()))
 
 
 def full_disk(server, folder):

@@ -54,13 +54,17 @@ def may_take_back(sale, back, role):
     return back is None and state_of(sale) == SOLD and (role == OPERATOR or not sale["counted"])
 
 
+def need_corrections(book):
+    if not book.corrects():
+        raise Failed(f"no money is taken back: {accounts.PLANS} has no plan {corrections.CLASS} "
+                     f"of block 1 and unit 1, or {places.SECRET} no secret")
+
+
 def take_back(db, book, sale, who):
     """Takes back a sale: what the book said. It is asked before whether it has the sale: one that
     it lost, being an older copy, it has again by that.
     """
-    if not book.corrects():
-        raise Failed(f"no sale is taken back: {accounts.PLANS} has no plan {corrections.CLASS} "
-                     f"of block 1 and unit 1, or {places.SECRET} no secret")
+    need_corrections(book)
     known = Act(*(sale[it] for it in Act._fields))
     if (said := acts.ask(book, known)) not in TAKEN:
         return said

@@ -1,7 +1,8 @@
 """Sells to an account in the site's money, or credits the file of vouchers on standard input.
 
 Such a file has the header voucher,account,sum, as `radacctd import` reads it: sums in whole units
-of the book. What has no answer is sent again each minute. Given again, nothing is credited twice.
+of the book. A sum with - before it is taken from the account, by a number that no other sum is taken
+by. What has no answer is sent again each minute. Given again, nothing is credited or taken twice.
 
 The status is 0 if all was sold, now or before, 1 if something was refused, and 3 if the book did
 not answer yet.
@@ -9,13 +10,14 @@ not answer yet.
 
 import collections
 import datetime
+import sqlite3
 import sys
 
-from radacctd_site.core import Failed, accounts, acts, desk, money, names, places, store
+from radacctd_site.core import Failed, accounts, acts, desk, money, names, places, store, told
 from radacctd_site.core.acts import Act
 from radacctd_site.desk import sales
 
-COLUMNS, FILE = ["voucher", "account", "sum"], "/dev/stdin"
+COLUMNS, FILE, TAKEN = ["voucher", "account", "sum"], "/dev/stdin", "taken"
 
 
 class Waiting(Failed):
@@ -26,7 +28,8 @@ class Waiting(Failed):
 
 def arguments(it):
     it.add_argument("account", nargs="?", help="who gets it")
-    it.add_argument("sum", nargs="?", help="how much, in the site's money, as 5.00")
+    it.add_argument("sum", nargs="?", help="how much, in the site's money, as 5.00; -5.00 is "
+                    "taken back")
     it.add_argument("--again", metavar="DAY", help="send again what was sold since a day, as "
                     "2026-12-31, to a book that was put back from a copy")
     it.add_argument("--unpaid", action="store_true", help="nothing was paid: it counts in no total")
@@ -39,11 +42,19 @@ def account_of(text):
     return names.for_desk(octets)
 
 
+def act_of(number, account, text, read):
+    """The act of a sum, or None if `read` knows none: with - before it, it is taken back."""
+    total = read(text.removeprefix("-"))
+    if total is None or text[:1] != "-":
+        return total and Act(number, account, total, sales.SALE, sales.COMMAND)
+    return Act(number, account, -total, sales.BACK, sales.COMMAND)
+
+
 def record(cells):
-    total = money.sum_of(cells["sum"])
-    if not desk.NUMBER.fullmatch(cells["voucher"]) or total is None:
+    found = act_of(cells["voucher"], account_of(cells["account"]), cells["sum"], money.sum_of)
+    if not desk.NUMBER.fullmatch(cells["voucher"]) or not found:
         raise ValueError("a voucher is 1 to 32 of A-Z 0-9 and -, a sum is 1 to 1000000000000")
-    return Act(cells["voucher"], account_of(cells["account"]), total, sales.SALE, sales.COMMAND)
+    return found
 
 
 def asked(words):
@@ -51,34 +62,38 @@ def asked(words):
     if words.account is None and not sys.stdin.isatty():
         return names.records_in(FILE, COLUMNS, record)
     site = money.of_site(places.SETTINGS)
-    total = site.units(words.sum or "")
-    if words.account is None or total is None:
+    with told(Failed, "", ValueError):
+        found = words.account and act_of(sales.new_number(), account_of(words.account),
+                                         words.sum or "", site.units)
+    if not found:
         raise Failed(f"give ACCOUNT and SUM, as {site.plain(500)}, or a file: radacctl sell < FILE")
-    try:
-        account = account_of(words.account)
-    except ValueError as why:
-        raise Failed(str(why)) from None
-    return [Act(sales.new_number(), account, total, sales.SALE, sales.COMMAND)]
+    return [found]
 
 
 def sell(db, book, found):
     """Writes all, and then sends each, unless something of it may not be sold."""
     for it in found:
-        if why := accounts.refused(db, names.readable(it.account)):
+        if it.sum > 0 and (why := accounts.refused(db, names.readable(it.account))):
             raise Failed(f"nothing was sold: {why}")
-    with db:
-        acts.begin(db, found)
+    if any(it.sum < 0 for it in found):
+        sales.need_corrections(book)
+    try:
+        with db:
+            acts.begin(db, found)
+    except sqlite3.IntegrityError:
+        numbers = ", ".join(it.number for it in found if it.sum < 0)
+        raise Failed(f"nothing was sent: one of {numbers} has taken another sum") from None
     refused, counts = [], collections.Counter()
     for it in found:
         said = acts.send(db, book, it)
-        counts[said] += 1
+        counts[TAKEN if it.sum < 0 and said == desk.NEW else said] += 1
         if said in (desk.DIFFERS, desk.LIMIT):
             refused.append(f"{it.number}, {names.readable(it.account)}: {said}")
-        if said in (desk.AWAY, desk.NO_KEY):
+        if said in (desk.AWAY, desk.NO_KEY) or it.sum < 0 and said != desk.NEW:
             break
-    print(f"added {counts[desk.NEW]}, repeated {counts[desk.REPEAT]}, refused {len(refused)}")
-    rest = len(found) - len(refused) - counts[desk.NEW] - counts[desk.REPEAT]
-    if rest:
+    print(f"added {counts[desk.NEW]}, repeated {counts[desk.REPEAT]}, refused {len(refused)}"
+          + f", taken {counts[TAKEN]}" * (counts[TAKEN] > 0))
+    if rest := len(found) - len(refused) - sum(counts[it] for it in (*acts.TAKEN, TAKEN)):
         why = ": it does not take the key" if counts[desk.NO_KEY] else ""
         raise Waiting(f"the book has not answered{why}: {rest} are sent again each minute")
     if refused:

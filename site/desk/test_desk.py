@@ -370,6 +370,36 @@ class Command(Desk):
         self.assertRaises(Failed, self.credit, "a,b\n1,2\n")
         self.assertEqual(self.book.asked, [])
 
+    def test_money_is_taken_once(self):
+        self.run_it("sell", "al", "5")
+        self.assertIn("refused 0, taken 1", self.run_it("sell", "al", "-3.50"))
+        self.assertIn("taken 1", self.run_it("sell", "al", "-1", "--unpaid"))
+        text = "voucher,account,sum\nFEE-1,al,-20\nFEE-2,bo,-20\n"
+        for _ in range(2):
+            self.assertIn("added 0, repeated 0, refused 0, taken 2", self.credit(text))
+        self.assertEqual(self.book.balances(), {b"al": 30, b"bo": -20})
+        self.assertIn("1 sales  sold 5.00 EUR, taken back 3.90 EUR, net 1.10 EUR", self.run_it("sales"))
+
+    def test_one_number_takes_one_sum_from_one_account(self):
+        self.credit("voucher,account,sum\nFEE-1,al,-20\n")
+        for row in ("FEE-1,al,-30", "FEE-1,bo,-20"):
+            with self.assertRaisesRegex(Failed, "V-1|FEE-1 has taken another sum"):
+                self.credit(f"voucher,account,sum\nV-1,al,5\n{row}\n")
+        self.assertEqual((self.book.balances(), self.book.asked), ({b"al": -20}, ["FEE-1"]))
+        for line in ("V-1,al,-0", "V-1,al,--5", "V-1,al,-"):
+            self.assertRaises(Failed, self.credit, f"voucher,account,sum\n{line}\n")
+
+    def test_without_its_plan_and_without_an_answer_nothing_is_called_taken(self):
+        self.book.is_away = True
+        with self.assertRaisesRegex(sell.Waiting, "2 are sent again"):
+            self.credit("voucher,account,sum\nFEE-1,al,-20\nFEE-2,al,-20\n")
+        self.assertEqual(self.book.asked, ["FEE-1"])
+        self.book.is_away = False
+        self.assertEqual(acts.again(self.db, self.book), 2)
+        self.list_plans({})
+        self.assertRaisesRegex(Failed, "has no plan debit", self.run_it, "sell", "al", "-5")
+        self.assertEqual(self.book.balances(), {b"al": -40})
+
     def test_while_the_book_is_away_all_of_it_waits(self):
         self.book.is_away = True
         with self.assertRaisesRegex(Failed, "2 are sent again") as why:
