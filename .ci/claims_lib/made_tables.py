@@ -121,7 +121,6 @@ EXPLAINED = {
     **dict.fromkeys(("sales", "balance", "show", "who"), "[DESK](DESK.md#who-sold-what)"),
     **dict.fromkeys(("package", "code"), "[packages](../site/packages/README.md)"),
     "allow": "[VOUCHERS](VOUCHERS.md#allowances)",
-    "report": "[VOUCHERS](VOUCHERS.md#reports)",
     **dict.fromkeys(("copy", "restore"), "[copies](../site/copies/README.md)"),
 }
 

@@ -20,7 +20,7 @@ BY_HAND = {
     "README": "bin/try and bin/build run it",
     "SIZING": "it changes the kernel's settings",
     "TROUBLE": "each symptom is another; interop/telling makes what it explains",
-    "VOUCHERS": "interop/tools runs each of its tools over sites of its own",
+    "VOUCHERS": "site/desk/live.py gives its commands; interop/queries runs that of a month",
 }
 
 

@@ -13,7 +13,6 @@ COMMANDS = {
     "setup": "sets a site up, or completes it",
     "doctor": "says what is wrong with a site, and what to do",
     "key": "makes, ends and lists guests' keys",
-    "report": "reports a day or a month",
 }
 # Those of the kit's features.
 KIT = {name: text for name, (text, _) in features.commands().items()}

@@ -13,7 +13,7 @@ EXPORTS = f"{FOLDER}/exports"
 NAME = re.compile(r"site-\d{4}-\d{2}-\d{2}(?:\.\d{6})?")
 # A copy that its check refused.
 REFUSED = "refused-"
-# How many nights stay, and of how many days the exports that reports compare.
+# How many nights stay, and of how many days the exports.
 NIGHTS, EXPORTED_DAYS = 14, 400
 # The stores of SQLite: the user in whose folder each lies, and the mode of that.
 STORES = {

@@ -105,7 +105,7 @@ def rename(path, new):
 
 
 def export(folder, name):
-    """Writes what reports compare: the book's sessions, balances and vouchers on that day."""
+    """Writes what a month is reckoned of: the book's sessions, balances and vouchers on that day."""
     new = f"{places.EXPORTS}/.new"
     shutil.rmtree(new, ignore_errors=True)
     os.makedirs(new, 0o700)
@@ -117,7 +117,6 @@ def export(folder, name):
                 shutil.copyfileobj(it.stdout, file)
             if it.returncode:
                 raise Failed(f"the copy is sound, but its {what} cannot be exported")
-    files.make(f"{new}/taken", f"{int(os.stat(folder).st_mtime)}\n".encode())
     os.rename(new, f"{places.EXPORTS}/{name}")
 
 

@@ -171,7 +171,7 @@ class Taking(Site):
                  for it in (path, *(f"{path}/{it}" for it in kept.paths(path)))}
         self.assertEqual(modes, {0})
         day = f"{places.EXPORTS}/{os.path.basename(path).removeprefix('site-')}"
-        self.assertEqual(sorted(os.listdir(day)), ["balances.csv.gz", "sessions.csv.gz", "taken",
+        self.assertEqual(sorted(os.listdir(day)), ["balances.csv.gz", "sessions.csv.gz",
                                                    "topups.csv.gz"])
 
     def test_a_book_that_is_not_sound_is_kept_apart_and_no_older_copy_goes(self):
