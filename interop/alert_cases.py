@@ -150,7 +150,7 @@ b radacctd_config_is_current 1x9 0x7 1x42
 # A unit that fails each hour from the second on, one that fails at each start of every minute, and
 # one that failed once and was mended.
 units that have failed
-a node_systemd_unit_state{name="radacctd-key.service",state="failed"} 0x60 1x59
+a node_systemd_unit_state{name="radacctd-copy.service",state="failed"} 0x60 1x59
 a node_systemd_unit_state{name="radacctd-minute.service",state="failed"} 0x80 1x2 0 1x3 0 1x32
 a node_systemd_unit_state{name="radacctd-forward.service",state="failed"} 0x30 1x1 0x88
 a node_systemd_unit_state{name="other.service",state="failed"} 1x120

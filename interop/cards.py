@@ -1,17 +1,14 @@
-"""Rows of interop/pages: guests' keys and their cards, printed vouchers and the redeem page."""
+"""Rows of interop/pages: cards of guests, printed vouchers and the redeem page."""
 
 import csv
 import glob
 import os
-import re
-import stat
 import subprocess
 
 from browser import holding
 from redeeming import live
-from served import PROGRAM, ROOT, check
+from served import check
 
-TOOLS = os.path.join(ROOT, "etc", "tools")
 LETTERS = "ACDEFHJKMNPQRTUWXY34679"
 SITE_KEY = "site-key-000000001"
 MORE_KEYS = f"""
@@ -22,99 +19,41 @@ accounts = true
 """
 
 
-def tool(name, *words):
-    """How a command of radacctl ended, and what it printed and reported."""
-    command = [os.path.join(TOOLS, "radacctl"), name, *words]
-    done = subprocess.run(command, capture_output=True, text=True, stdin=subprocess.DEVNULL)
-    return done.returncode, done.stdout, done.stderr
-
-
-def mode_of(path):
-    return oct(stat.S_IMODE(os.stat(path).st_mode))
-
-
 def codes_in(path):
     """What the QR codes of a picture say."""
     done = subprocess.run(["zbarimg", "-q", "--raw", path], capture_output=True, text=True)
     return sorted(done.stdout.split())
 
 
-def text_of(path):
-    with open(path, encoding="utf-8") as file:
-        return file.read()
-
-
-def keys(browser, proxy, server, folder):
-    """A key for a stay: made, on a card, shown, ended at check-out or on time."""
-    card, before = os.path.join(folder, "card.html"), text_of(server.config)
-    words = ["--config", server.config, "--url", proxy.url()]
-    account = "Zoë 1126"
-    done = tool("key", *words, "new", account, "--days", "3", "--card", card)
-    check("radacctl key makes a key", done, (0, f"{account}: the card is {card}\n", ""))
-    token = re.findall(r"[a-z0-9]{5}(?:-[a-z0-9]{5}){4}", text_of(card))[0]
-    check("the card is its owner's alone", mode_of(card), "0o600")
-    check("the server took the key at once", proxy.guest(token)[0], 200)
-    browser.go(f"file://{card}")
-    browser.size(420, 640, 2)
+def card(browser, proxy, service, folder, account, readable):
+    """The key of a card that a cashier prints: its code is the page of the account."""
+    service.settings(url=proxy.url())
+    browser.go(proxy.url("/card/"))
+    readable(browser, "the form of a card")
+    browser.js("document.getElementById('account').value = arguments[0]", account)
+    browser.click("main button[value=make]")
+    check("a card is printed", browser.shows("Print this page now"), True)
+    key = browser.js("return document.getElementById('key').textContent")
     picture = os.path.join(folder, "card.png")
+    readable(browser, "a card", ["en"])
     browser.picture(picture)
-    browser.size(1000, 800)
-    check("the card's code is the page's address", codes_in(picture), [proxy.url(f"/?k={token}")])
-    browser.go(codes_in(picture)[0])
-    check("which shows the account", browser.shows(f"Account {account}"), True)
-    again = tool("key", *words, "new", account)
-    check("a second key for it wants --again", again[0], 1)
-    check(
-        "a card is not overwritten", tool("key", *words, "new", "x", "--card", card)[0], 1
-    )
-    listed = tool("key", *words, "list")[1]
-    check(
-        "the list has the account, and no key", (account in listed, token in listed), (True, False)
-    )
-    done = tool("key", *words, "revoke", account)
-    check("check-out ends the key", done[:2], (0, "ended 1 keys\n"))
-    check("at once", proxy.guest(token)[0], 403)
-    check("and the configuration is as before", text_of(server.config), before)
-    expiry(proxy, server, words)
-    full(server, folder)
+    check("the card's code is the guests' page", codes_in(picture), [proxy.url(f"/?k={key}")])
+    service.settings()
+    return key
 
 
-def full(server, folder):
-    """A configuration with as many keys as one takes."""
-    path, before = os.path.join(folder, "full.toml"), text_of(server.config)
-    count = 4096 - before.count("[[key]]")
-    lines = [f'[[key]]\ntoken = "full-key-{at:09d}"\naccount = "f{at}"\n' for at in range(count)]
-    with open(path, "w", encoding="utf-8") as file:
-        file.write(before + "\n" + "".join(lines))
-    done = subprocess.run([PROGRAM, "check", "--config", path], capture_output=True, text=True)
-    check("4,096 keys are right", done.returncode, 0)
-    status, _, errors = tool("key", "--config", path, "new", "zed")
-    check("one more is refused, and why", (status, "4096 keys are all" in errors), (1, True))
-
-
-def expiry(proxy, server, words):
-    made = tool("key", *words, "new", "yann", "--days", "1")[1]
-    token = made.split()[-1]
-    check(
-        "before its time a key stays", tool("key", *words, "expire")[1], "no key to end\n"
-    )
-    check("and is taken", proxy.guest(token)[0], 200)
-    text = text_of(server.config)
-    with open(server.config + "~", "w", encoding="utf-8") as file:
-        file.write(re.sub(r"until \S+", "until 2026-01-01T12:00", text))
-    os.chmod(server.config + "~", 0o600)
-    os.rename(server.config + "~", server.config)
-    check("after it, it ends", tool("key", *words, "expire")[:2], (0, "ended 1 keys\n"))
-    check("for the server, too", proxy.guest(token)[0], 403)
-    right = text_of(server.config)
-    with open(server.config, "a", encoding="utf-8") as file:
-        file.write("\n[broken")
-    status = tool("key", *words, "new", "zed")[0]
-    check(
-        "a wrong configuration gets no key", (status, "zed" in text_of(server.config)), (1, False)
-    )
-    with open(server.config, "w", encoding="utf-8") as file:
-        file.write(right)
+def ended(browser, proxy, account, key):
+    """A new card is asked about; at check-out the card ends."""
+    browser.go(proxy.url("/card/"))
+    browser.js("document.getElementById('account').value = arguments[0]", account)
+    browser.click("main button[value=make]")
+    check("a new card would end the one before", browser.shows("A new one ends it"), True)
+    browser.click("main a.btn")
+    check("which still shows the account", proxy.guest(key)[0], 200)
+    browser.js("document.getElementById('account').value = arguments[0]", account)
+    browser.click("main button[value=end]")
+    check("check-out ends it", browser.shows("has ended"), True)
+    check("at once", proxy.guest(key)[0], 404)
 
 
 def has_check_letter(code):

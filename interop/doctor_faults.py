@@ -65,10 +65,10 @@ BOOK, SERVER = "/var/lib/radacctd/book", "$(systemctl show -P MainPID radacctd)"
 BREAKS = {
     # The server writes each ten seconds what it saw, and its line once it has seen it twice.
     "book-away": (f"mv {BOOK} {BOOK}.kept; sleep 12", f"mv {BOOK}.kept {BOOK}; sleep 12"),
-    "unit-down": ("systemctl stop radacctd-key.timer", "systemctl start radacctd-key.timer"),
+    "unit-down": ("systemctl stop radacctd-copy.timer", "systemctl start radacctd-copy.timer"),
     "unit-failed": ("systemd-run --unit=radacctd-broken false; sleep 1",
                     "systemctl reset-failed radacctd-broken"),
-    "unit-off": ("systemctl disable radacctd-key.timer", "systemctl enable radacctd-key.timer"),
+    "unit-off": ("systemctl disable radacctd-copy.timer", "systemctl enable radacctd-copy.timer"),
     "config-wrong": appended("\\nx = 1\\n"),
     "plan-waits": appended('\\n[[plan]]\\nclass = "gold"\\nblock = 1\\nunit = 1\\n'),
     "plan-lost": edited("s/^unit = 1$/unit = 2/", CONFIG),

@@ -25,7 +25,7 @@ FILES += ["/etc/radacctd-web/*.json", "/etc/nginx/conf.d/*"]
 FILES += [f"{FRONT}/*", f"{FRONT}/certs/*", f"{FRONT}/secrets/*", "/etc/ssl/radacctd.pem"]
 FILES += ["/etc/ssl/private/radacctd.key"]
 UNITS = ["radacctd", "radacctd-front", "radacctd-cut", "radacctd-site.socket", "nginx"]
-UNITS += ["radacctd-copy.timer", "radacctd-key.timer", "radacctd-minute.timer"]
+UNITS += ["radacctd-copy.timer", "radacctd-minute.timer"]
 
 
 def titled(box, title):
@@ -92,7 +92,6 @@ class Asking:
         found = {"exports": self.exports(), "files": self.files()}
         found["sheets"] = [box.must(f"radacctl voucher list {it}") for it in ("", *self.sheets)]
         found["persons"] = box.must("radacctl person list")
-        found["keys"] = box.must("radacctl key list")
         found["sales"] = box.must("radacctl sales --first 2020-01-01 --csv")
         found["groups"] = sorted(box.must("getent group radacctd-balances").strip()
                                  .rsplit(":", 1)[1].split(","))
@@ -120,11 +119,11 @@ class Lost(Asking):
         waits_for("all units run", lambda: box.run("systemctl --failed -q --no-legend")[1], "", 60)
 
     def use(self):
-        """Sales, reports, codes, keys, and money that is taken back."""
+        """Sales, reports, codes, a card, and money that is taken back."""
         box = self.box
         text = "voucher,account,sum\\nA-1,al,500\\nA-2,bo,70\\n"
         box.must(f"printf '{text}' | radacctl sell")
-        told = box.must("printf 'voucher,account,sum\\nB-1,cy,60\\n' | radacctl sell")
+        box.must("printf 'voucher,account,sum\\nB-1,cy,60\\n' | radacctl sell")
         check("a report", self.report(3), True)
         waits_for("is charged", lambda: "al,497,0" in box.must(f"cat {BALANCES}"), True, 60)
         for _ in range(2):
@@ -133,8 +132,8 @@ class Lost(Asking):
             self.codes.append(codes)
         check("a code is redeemed", self.redeem("dan", self.codes[0][0]), 200)
         box.must(f"radacctl voucher withdraw --yes {self.sheets[1]}")
-        told = box.must("radacctl key new al --days 300")
-        self.key = told.split(" ")[-1].strip()
+        password = re.search(r"(?m)^anna (\S+)$", box.must(f"cat {start_site.NOTES}/cashiers.txt"))[1]
+        self.key = redeeming.card(box.beside, URL, "anna", password, "al", *RESOLVED)[0]
         box.must(f"printf '{TAKEN}' | radacctl sell")
         waits_for("money is taken", lambda: "bo,63,0" in box.must(f"cat {BALANCES}"), True, 60)
         waits_for("al logs in", self.may_log_in, True, 30)

@@ -22,15 +22,19 @@ class Visitor:
     def get(self, path):
         return self.run([*self.words, f"{self.url}{path}"])[1]
 
-    def post(self, path, page=None, **fields):
-        """The status of a form of a page, and where it leads."""
+    def sent(self, path, page=None, **fields):
+        """What a form of a page is answered, and behind it the status and where it leads."""
         found = re.search(r'name="token" value="(\w+)"', self.get(page or path))
         fields["token"] = found[1] if found else ""
         words = [it for name, value in fields.items()
                  for it in ("--data-urlencode", f"{name}={value}")]
-        words += ["-o", os.devnull, "-w", "%{http_code} %{redirect_url}", "-H",
-                  f"Origin: {self.url}", f"{self.url}{path}"]
-        status, _, to = self.run([*self.words, *words])[1].partition(" ")
+        words += ["-w", "\n%{http_code} %{redirect_url}", "-H", f"Origin: {self.url}",
+                  f"{self.url}{path}"]
+        return self.run([*self.words, *words])[1]
+
+    def post(self, path, page=None, **fields):
+        """The status of a form of a page, and where it leads."""
+        status, _, to = self.sent(path, page, **fields).rpartition("\n")[2].partition(" ")
         return int(status or 0), to.strip().removeprefix(self.url)
 
 
@@ -44,12 +48,18 @@ def sold(run, url, name, password, account, total, *more):
     visitor = Visitor(run, url, *more)
     visitor.post("/login/", name=name, password=password)
     fields = {"account": account, "sum": total}
-    words = [it for pair in fields.items() for it in ("--data-urlencode", "=".join(pair))]
-    token = re.search(r'name="token" value="(\w+)"', visitor.get("/desk/"))
-    asked = run([*visitor.words, *words, "-d", f"token={token and token[1]}", f"{url}/desk/"])[1]
-    number = re.search(r'name="number" value="([^"]+)"', asked)
+    number = re.search(r'name="number" value="([^"]+)"', visitor.sent("/desk/", **fields))
     sold_at = visitor.post("/desk/", **fields, number=number and number[1], sure="yes")[1]
     return visitor.get(sold_at)
+
+
+def card(run, url, name, password, account, *more):
+    """The key of a new card that a cashier prints for an account, and the cashier."""
+    visitor = Visitor(run, url, *more)
+    visitor.post("/login/", name=name, password=password)
+    said = visitor.sent("/card/", account=account, act="make", sure="yes")
+    found = re.search(r'id="key">([a-z0-9-]+)<', said)
+    return found and found[1], visitor
 
 
 def sheet(run, count, total="5.00"):

@@ -17,7 +17,7 @@ KEPT = {
         "Anyone who can watch the network reads keys and answers",
         "an access server that gives one session id to two guests",
         "the withdrawals since the copy of the night are lost",
-        "So end keys at check-out",
+        "So end cards at check-out",
     ),
     "docs/FORWARD.md": (
         "A report of a session that was carried forward opens it anew, and charges it again in whole",
@@ -50,7 +50,6 @@ KEPT = {
     ),
     "docs/SITE.md": (
         "a restart fails",
-        "A key that is made or ended between copy and rename is lost, or comes back",
         "its sessions are priced by `default` until then",
         "or the next start fails",
         "If you run the server without the unit, write that file yourself",

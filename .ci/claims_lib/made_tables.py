@@ -113,7 +113,6 @@ def commands(_checker):
 EXPLAINED = {
     "setup": "[START](START.md)",
     "doctor": "[DOCTOR](DOCTOR.md)",
-    "key": "[DESK](DESK.md#keys-and-cards)",
     "sell": "[VOUCHERS](VOUCHERS.md#credit-a-file-of-vouchers)",
     "voucher": "[DESK](DESK.md#printed-vouchers)",
     "person": "[DESK](DESK.md#put-a-proxy-in-front)",

@@ -1,85 +1,10 @@
-"""What commands do with texts: keys in a configuration, files of vouchers, stock."""
+"""How radacctl ends, and that it leaves nothing next to it."""
 
-import contextlib
-import io
 import os
 import subprocess
-import tomllib
 import unittest
-from unittest import mock
 
-from radacctl import configuration, files, keys
-from radacctl.commands import key
-from tool_tests import ROOT, Folder
-
-CONFIG = '''# A site.
-[[plan]]
-class = "default"   # all
-block = 1000000
-unit = 5
-
-[[key]]
-token = "al-key-0000000001"
-account = "al"
-
-# radacctd-key: made 2026-11-27, until 2026-11-28T12:00
-[[key]]
-token = "bo-key-0000000001"
-account = "bo"
-
-# The next one is a cashier.
-[[key]]
-token = "cash-key-00000001"
-cashier = true
-'''
-
-
-class Keys(unittest.TestCase):
-    """No octet outside of a key changes."""
-
-    def test_a_key_goes_with_its_mark_alone(self):
-        after = keys.without(CONFIG, {"bo-key-0000000001"})
-        begin = CONFIG.index("\n# radacctd-key")
-        end = CONFIG.index("\n# The next one")
-        self.assertEqual(after, CONFIG[:begin] + CONFIG[end:])
-
-    def test_the_comment_of_the_next_key_stays(self):
-        after = keys.without(CONFIG, {"al-key-0000000001", "bo-key-0000000001"})
-        self.assertIn("# The next one is a cashier.\n[[key]]", after)
-        self.assertEqual(len(tomllib.loads(after)["key"]), 1)
-
-    def test_ends_of_lines_stay(self):
-        text = CONFIG.replace("\n", "\r\n")
-        after = keys.with_more(keys.without(text, {"al-key-0000000001"}), "[[key]]\ntoken = 1\n")
-        self.assertNotIn("\n", after.replace("\r\n", ""))
-
-    def test_what_is_made_and_ended_again_is_as_it_was(self):
-        block = '# radacctd-key: made 2026-11-27\n[[key]]\ntoken = "t"\naccount = "x"\n'
-        self.assertEqual(keys.without(keys.with_more(CONFIG, block), {"t"}), CONFIG)
-
-
-class Cards(Folder):
-    def test_a_card_of_a_key_that_is_live_stays(self):
-        """The configuration has its name, and the disk gave no word for it."""
-        with open(self.path, "w", encoding="utf-8") as file:
-            file.write(CONFIG)
-        sync, end = files.sync_folder, os.path.join(self.folder, "card.html")
-
-        def fails(folder):
-            if has_begun:
-                raise OSError(5, "Input/output error")
-            has_begun.append(sync(folder))
-
-        for faults, wanted in ((["wrong"], False), ([""], True)):
-            has_begun = []
-            with mock.patch.object(key, "card", lambda *_: "card"), \
-                    mock.patch.object(configuration, "fault_of", lambda *_: faults[0]), \
-                    mock.patch.object(files, "sync_folder", fails), \
-                    contextlib.redirect_stderr(io.StringIO()):
-                words = ["--config", self.path, "new", "cy", "--card", end]
-                self.assertRaises(SystemExit, key.main, words)
-            self.assertEqual(['account = "cy"' in files.text(self.path), os.path.exists(end)],
-                             [wanted, wanted])
+from tool_tests import ROOT
 
 
 class Program(unittest.TestCase):

@@ -21,7 +21,6 @@ ROOTS = {"PrivateUsers", "ProcSubset", "RemoveIPC", "CapabilityBoundingSet", "Sy
 EXCEPTIONS = {
     "radacctd-faults.service": ROOTS | {"ProtectProc"},
     "radacctd-forward.service": ROOTS,
-    "radacctd-key.service": ROOTS | {"ProtectProc"},
     "radacctd-copy.service": ROOTS | {"ProtectHome", "ProtectProc"},
 }
 

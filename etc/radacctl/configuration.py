@@ -1,13 +1,11 @@
 """Changes the configuration: one at a time, checked, and put into place whole with its rights."""
 
-import collections
 import contextlib
 import os
 import stat
 import subprocess
-import tomllib
 
-from radacctl import files, keys, site
+from radacctl import files, site
 from radacctl.program import fail, told, until
 
 # What follows the name of the configuration in the name of a file that is to take its place. A run
@@ -18,8 +16,6 @@ LOCK = ".lock"
 # How long another program may have it locked, and how long the check of a configuration may take,
 # in seconds. The service's user makes the check, and could stop it.
 PATIENCE, LONGEST_CHECK = 60, 20
-# What a change left: the tokens that were ended and made, and why the configuration is wrong.
-Changed = collections.namedtuple("Changed", "gone made fault")
 
 
 @contextlib.contextmanager
@@ -89,33 +85,6 @@ def fault_of(new, path):
     if process.returncode == 0:
         return ""
     return (said.strip() or f"check ended with status {process.returncode}").replace(new, path)
-
-
-def change(path, decide):
-    """Changes the keys of a configuration, and nothing else of it, while nobody else does.
-
-    `decide` gets the text and its content, and returns the key to add, or "", and the tokens of
-    those to end. A configuration that is wrong gets no key. But its keys are ended all the same.
-    """
-    with locked(path):
-        before = keys.read(path)
-        was = keys.config_of(before, path)
-        block, ended = decide(before, was)
-        if not block and not ended:
-            return Changed([], [], "")
-        after, made = keys.without(before, ended), tomllib.loads(block).get("key", [])
-        if block:
-            after = keys.with_more(after, block)
-        wanted = [it for it in was.get("key", []) if it.get("token") not in ended] + made
-        # Nothing else of it is another one.
-        try:
-            now = tomllib.loads(after.replace("\r\n", "\n"))
-        except tomllib.TOMLDecodeError:
-            now = {}
-        if now.get("key", []) != wanted or {**now, "key": 0} != {**was, "key": 0}:
-            fail(f"the keys of {path} are not written as [[key]]: change them by hand")
-        fault = put_in_place(path, after, is_needed=bool(block))
-    return Changed(list(ended), [it["token"] for it in made], fault)
 
 
 def put_in_place(path, text, is_needed):

@@ -12,7 +12,6 @@ from radacctl import program, site
 COMMANDS = {
     "setup": "sets a site up, or completes it",
     "doctor": "says what is wrong with a site, and what to do",
-    "key": "makes, ends and lists guests' keys",
 }
 # Those of the kit's features.
 KIT = {name: text for name, (text, _) in features.commands().items()}

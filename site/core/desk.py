@@ -119,20 +119,6 @@ def keys_in(path, most, may_read=lambda status: False):
     return [line for _, line in named]
 
 
-def read(places, path, key):
-    """The status and the object that one of some desks answers to a question; 0 if none does."""
-    for where in places:
-        try:
-            status, body = ask(where, "GET", path, key, patience=Desk.PATIENCE,
-                               connect=Desk.CONNECT, most=LONGEST_LIST)
-        except OSError:
-            continue
-        found = object_of(body)
-        if status != 503 and (status != 200 or isinstance(found, dict)):
-            return status, found
-    return 0, None
-
-
 class Desk:
     """The book's desk at an address, for who has a cashier's key."""
 
@@ -144,7 +130,13 @@ class Desk:
 
     def look(self, path):
         """The status and the object that is answered to a question; 0 if there is no answer."""
-        return read([self.where], path, self.key)
+        try:
+            status, body = ask(self.where, "GET", path, self.key, patience=self.PATIENCE,
+                               connect=self.CONNECT, most=LONGEST_LIST)
+        except OSError:
+            return 0, None
+        found = object_of(body)
+        return (status, found) if status != 200 or isinstance(found, dict) else (0, None)
 
     def debit(self, account, total, number):
         """What became of a correction: new if the book answered it, else nobody knows."""

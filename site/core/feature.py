@@ -16,5 +16,6 @@ PAGES = [
     Page("GET", "/site.css", "pages:style", ANYBODY),
 ]
 TABLES = acts.TABLES + people.TABLES
-PACKAGES = ["gunicorn", "libjs-bootstrap5", "python3-bottle", "python3-jinja2"]
+PACKAGES = ["gunicorn", "libjs-bootstrap5", "python3-bottle", "python3-jinja2",
+            "python3-segno"]
 UNITS = ["radacctd-site.socket", "radacctd-minute.timer"]

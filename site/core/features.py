@@ -7,6 +7,8 @@ Nothing else names a feature, so one whose folder is removed is gone. A feature.
     MENU       what the menu of each page has: each an Entry
     TABLES     its tables in site.db
     EACH_MINUTE  what is done each minute, by the name of a function
+    OF_ACCOUNT where the staff goes on from an account: each an Entry
+    WHOSE      the account of a key that a guest gives, by the name of a function
     REFUSES    why nothing is sold to an account, by the name of a function
     PACKAGES   of Debian, which the set-up installs
     UNITS      which the set-up enables

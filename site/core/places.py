@@ -24,12 +24,6 @@ def book():
     return desk.Desk(desk.place(where) if where else desk.HERE, key, secret.rstrip(b"\r\n"))
 
 
-def readers():
-    """Where guests' questions go."""
-    where = os.environ.get("RADACCTD_DESK")
-    return [desk.place(where)] if where else [desk.HERE]
-
-
 def settings():
     return money.settings_in(SETTINGS)
 

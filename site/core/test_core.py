@@ -287,7 +287,7 @@ class Languages(Site):
                 if name.endswith((".html", ".py")) and not name.startswith(("test_", "live")):
                     with open(os.path.join(folder, name), encoding="utf-8") as file:
                         wanted |= texts_of(file.read())
-        wanted |= {it.title for it in features.listed("MENU")}
+        wanted |= {it.title for name in ("MENU", "OF_ACCOUNT") for it in features.listed(name)}
         self.assertGreater(len(wanted), 10)
         for language in ("de", "fr"):
             with open(f"{features.TOP}/locale/{language}.po", encoding="utf-8") as file:

@@ -121,8 +121,11 @@ class Visit:
 
     def page(self, template, status=200, **values):
         """A page by its template; what stands in it is escaped."""
-        menu = [it for it in features.listed("MENU") if self.role in it.roles]
-        return rendered(template, status, self.language, visit=self, menu=menu, **values)
+        return rendered(template, status, self.language, visit=self, **values)
+
+    def entries(self, member):
+        """Where a list of features leads this reader."""
+        return [it for it in features.listed(member) if self.role in it.roles]
 
     def say(self, text, status):
         """A page of one sentence."""

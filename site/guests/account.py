@@ -1,15 +1,11 @@
-"""What a guest sees of an account, from what the book's desk answers to the key of a card."""
+"""What a guest sees of an account, from what the book's desk tells of it."""
 
 import collections
 
-from radacctd_site.core import desk, names, places
+from radacctd_site.core import accounts, names
 
-# What the book's desk answers, and what a guest is told of an answer that is none.
-QUESTIONS = ("balance", "sessions", "topups")
-UNKNOWN, OTHER, AWAY = "unknown", "other", "away"
 # What is not a guest's own use: a correction, and what was carried forward, a line for each plan.
 CORRECTIONS = "books"
-GB, MB = 10**9, 10**6
 
 Session = collections.namedtuple("Session", "last state octets charged")
 Seen = collections.namedtuple("Seen", "account balance bought sessions older topups")
@@ -17,28 +13,23 @@ Seen = collections.namedtuple("Seen", "account balance bought sessions older top
 LINES = 100
 
 
-class NotShown(Exception):
-    """Why nothing is shown."""
-
-
-def asked(key):
-    """What the desk says of an account, by its key."""
-    found = {}
-    for question in QUESTIONS:
-        status, body = desk.read(places.readers(), f"/me/{question}", key)
-        if status != 200:
-            raise NotShown({401: UNKNOWN, 403: OTHER}.get(status, AWAY))
-        found |= body
+def asked(book, account):
+    """The balance, the sessions and the sums of an account; None if the desk does not tell them."""
+    found = []
+    for question in ("balance", accounts.SESSIONS, accounts.TOPUPS):
+        found.append(accounts.told(book, names.octets_typed(account), question))
+        if found[-1] is None:
+            return None
     return found
 
 
-def seen(found):
+def seen(account, balance, sessions, topups):
     """The same as a guest sees it: the newest first, and what was carried forward last."""
-    topups = sorted(found["topups"], key=lambda it: -it["when"])
-    lines = sorted(found["sessions"], key=lambda it: (it["client"].startswith("("), -it["last"]))
+    topups = sorted(topups, key=lambda it: -it["when"])
+    lines = sorted(sessions, key=lambda it: (it["client"].startswith("("), -it["last"]))
     lines = list(map(session_of, lines))
-    return Seen(names.readable(found["account"]), found["balance"],
-                sum(it["sum"] for it in topups), lines[:LINES], lines[LINES:], topups[:LINES])
+    return Seen(account, balance, sum(it["sum"] for it in topups), lines[:LINES], lines[LINES:],
+                topups[:LINES])
 
 
 def session_of(it):

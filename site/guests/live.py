@@ -1,5 +1,5 @@
 #!/usr/bin/python3
-"""The guests' page over the built program: a card's key, sessions that are charged, a book that is away.
+"""The guests' page over the built program: a card, sessions that are charged, a book that is away.
 
     RADACCTD=.../radacctd site/guests/live.py
 
@@ -8,6 +8,7 @@ if all is as it should be, else with 1.
 """
 
 import os
+import re
 import sys
 import tempfile
 
@@ -18,9 +19,10 @@ sys.path[:0] = [os.path.join(ROOT, it) for it in ("interop", "etc")]
 import radacctl  # it finds the kit
 import served
 from radacctd_site.core.live import Service
-from served import CASHIER, GUEST, check, report
+from served import check, report
 
-MB = 10**6
+MB, KEY, PASSWORD = 10**6, "site-key-000000001", "a-long-enough-one"
+MORE = f'\n[[key]]\ntoken = "{KEY}"\ncashier = true\naccounts = true\n'
 
 
 def shows(browser, *texts):
@@ -30,13 +32,27 @@ def shows(browser, *texts):
 
 def sold(server, total, number):
     body = f'{{"account":"room 12","sum":{total},"voucher":"{number}"}}'
-    return server.curl("POST", "/topups", CASHIER, body)[0]
+    return server.curl("POST", "/topups", KEY, body)[0]
+
+
+def cashier(service):
+    service.run("person", "put", "anna", stdin=None, input=f"{PASSWORD}\n")
+    browser = service.browser()
+    browser.post("/login/", name="anna", password=PASSWORD)
+    return browser
+
+
+def card(browser, account, **fields):
+    """The key of a card that a cashier prints."""
+    check("a card is printed", browser.post("/card/", account=account, act="make", **fields), 200)
+    found = re.search(r'id="key">([a-z0-9-]+)<', browser.text)
+    return found and found[1]
 
 
 def looks(server, service):
     """What a guest sees as money comes and goes."""
-    browser = service.browser()
-    check("a key of a card", browser.get(f"/?k={GUEST}"), 303)
+    browser, key = service.browser(), card(cashier(service), "room 12")
+    check("a key of a card", browser.get(f"/?k={key}"), 303)
     check("before the first sale", (browser.get("/"), shows(browser, "0.00 EUR left")), (200, []))
     check("a sale", sold(server, 700, "N-1"), 201)
     browser.get("/")
@@ -51,16 +67,15 @@ def looks(server, service):
     check("more is used than bought", server.radclient(report("Stop", "1A-2", 90 * MB)), True)
     browser.get("/")
     check("an account that is overdrawn", shows(browser, "2.10 EUR overdrawn", "Buy a voucher"), [])
-    return browser
+    return browser, key
 
 
-def refuses(server, service, browser):
+def refuses(server, service, browser, key):
     """Keys that are none, and a book that is away."""
-    for key, status, text in (("wrong-key-0000001", 403, "not known"),
-                              (CASHIER, 403, "not a guest")):
+    for wrong in ("wrong-key-0000001", KEY):
         other = service.browser()
-        check(f"{text}: the key is taken", other.post("/", key=key), 303)
-        check(f"{text}: and asked about", (other.get("/"), shows(other, text)), (status, []))
+        check("a key that is none", other.post("/", key=wrong), 303)
+        check("is not known", (other.get("/"), shows(other, "not known")), (404, []))
     check("a key of no shape", service.browser().post("/", key="x"), 422)
     server.kill()
     check("the book is away", (browser.get("/"), shows(browser, "Nothing is lost")), (503, []))
@@ -69,20 +84,28 @@ def refuses(server, service, browser):
     check("the key is forgotten", browser.post("/", act="forget"), 303)
     browser.get("/")
     check("and nothing is shown", shows(browser, "type the key"), [])
+    check("a new card is asked about", card(cashier(service), "room 12"), None)
+    new = card(cashier(service), "room 12", sure="yes")
+    check("it shows the account", (service.browser().get(f"/?k={new}"), browser.get(f"/?k={new}"),
+                                   browser.get("/")), (303, 303, 200))
+    browser.get(f"/?k={key}")
+    check("and the one before nothing", browser.get("/"), 404)
 
 
 def main():
     with tempfile.TemporaryDirectory() as folder:
         os.mkdir(f"{folder}/book")
         server = served.Server(f"{folder}/book")
+        with open(server.config, "a", encoding="utf-8") as file:
+            file.write(MORE)
         server.init()
         server.list_plans(folder)
         server.start(1 << 62)
-        service = Service(f"{folder}/site", server.desk, CASHIER)
+        service = Service(f"{folder}/site", server.desk, KEY)
         service.env["RADACCTD_PLANS"] = f"{folder}/plans.csv"
         try:
             service.start()
-            refuses(server, service, looks(server, service))
+            refuses(server, service, *looks(server, service))
         finally:
             service.kill()
             server.kill()

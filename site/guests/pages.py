@@ -1,9 +1,11 @@
-"""The guests' page: a key of a card in, and what is left, used and bought of its account out."""
+"""The guests' page: a key of a card or a code in, and what is left, used and bought of its account
+out.
+"""
 
-from radacctd_site.core import accounts, desk, web
+from radacctd_site.core import accounts, codes, desk, features, places, web
 from radacctd_site.guests import account
 
-# The key of the card, until the browser is closed.
+# The key, until the browser is closed.
 COOKIE = "__Host-guest"
 
 
@@ -15,13 +17,18 @@ def look(visit):
     key = visit.request.get_cookie(COOKIE) or ""
     if not desk.TOKEN.fullmatch(key):
         return asks(visit)
-    try:
-        found = account.asked(key)
-    except account.NotShown as why:
-        if str(why) != account.AWAY:
-            web.set_cookie(COOKIE, "")
-        return asks(visit, *reason(visit, str(why)))
-    return visit.page("guests/account.html", **shown(visit, found))
+    whose = next(filter(None, (does(visit.db, key) for does in features.functions("WHOSE"))), None)
+    if whose is None:
+        web.set_cookie(COOKIE, "")
+        return asks(visit, visit.text(
+            "This key is not known. It may have ended with your stay. Scan the card again, or ask at "
+            "the front desk."), 404)
+    found = account.asked(places.book(), whose)
+    if found is None:
+        return asks(visit, visit.text(
+            "The accounts cannot be reached now. Wait a minute, then load the page again. Nothing is "
+            "lost."), 503)
+    return visit.page("guests/account.html", **shown(visit, whose, *found))
 
 
 def give(visit):
@@ -32,7 +39,8 @@ def give(visit):
     return use(visit, visit.field("key"))
 
 
-def use(visit, key):
+def use(visit, text):
+    key = codes.read(text) or text
     if not desk.TOKEN.fullmatch(key):
         return asks(visit, visit.text(
             "A key has 16 to 64 letters, digits and dashes. Look at your card again."), 422)
@@ -44,22 +52,10 @@ def asks(visit, said="", status=200):
     return visit.page("guests/key.html", status, said=said)
 
 
-def reason(visit, why):
-    """What a guest reads, and the status."""
-    return {
-        account.UNKNOWN: (visit.text(
-            "This key is not known. It may have ended with your stay. Scan the card again, or ask at "
-            "the front desk."), 403),
-        account.OTHER: (visit.text("This is not a guest's key. Ask at the front desk."), 403),
-    }.get(why, (visit.text(
-        "The accounts cannot be reached now. Wait a minute, then load the page again. Nothing is "
-        "lost."), 503))
-
-
-def shown(visit, found):
+def shown(visit, whose, balance, sessions, topups):
     """What the page has: sums in the site's money, data in GB."""
-    it, known = account.seen(found), accounts.plans()
-    plan = account.plan_of(found["sessions"], known)
+    it, known = account.seen(whose, balance, sessions, topups), accounts.plans()
+    plan = account.plan_of(sessions, known)
     octets = account.buys(it.balance, plan) if plan else None
     return {"seen": it, "plan": plan, "known": known,
             "about": visit.data(octets) if octets is not None else "",

@@ -9,8 +9,8 @@ import csv
 import datetime
 import sys
 
-from radacctd_site.core import Failed, cli, codes, money, names, places, store
-from radacctd_site.packages import logins, packages, paper
+from radacctd_site.core import Failed, cli, codes, money, names, paper, places, store
+from radacctd_site.packages import logins, packages, pages
 
 # Above these a person is asked: so many codes, and so much money together.
 ASK_COUNT, ASK_TOTAL = 100, 1000
@@ -51,7 +51,7 @@ def make(db, book, key, words):
     logins.make(db, book, made)
     what = sheet or made[0].account
     print(f"{count} of {package.name}, {worth} each. To print: radacctl code print '{what}', or "
-          f"/packages/{paper.quoted(what)}")
+          f"/packages/{pages.quoted(what)}")
     if not sheet:
         print(f"{made[0].account}, password {made[0].secret}" if words.name else made[0].secret)
     wait = sum(it["state"] != logins.LIVE for it in logins.named(db, what))
@@ -93,7 +93,7 @@ def main(words):
         elif words.act == "list":
             show(db, words.what)
         elif words.act == "print":
-            print(paper.page(db, words.what))
+            print(paper.page("packages/cards.html", pages.values(db, words.what)))
         else:
             end(db, words)
     return 0

@@ -23,5 +23,5 @@ CREATE TABLE IF NOT EXISTS login (account TEXT PRIMARY KEY, name TEXT NOT NULL U
 CREATE INDEX IF NOT EXISTS login_sheet ON login (sheet);
 """
 EACH_MINUTE = "logins:settle_each_minute"
-REFUSES = "logins:refuses"
+REFUSES, WHOSE = "logins:refuses", "logins:whose"
 SETUP = "setup"

@@ -55,6 +55,13 @@ def refuses(db, account, text=accounts.plain):
     return None
 
 
+def whose(db, text):
+    """The account of a code that logs in, or None."""
+    found = db.execute("SELECT account FROM login WHERE secret = ? AND name <> account "
+                       "AND ended IS NULL", (codes.read(text),)).fetchone()
+    return found and found["account"]
+
+
 def make(db, book, made):
     """Makes logins, and sells each by one credit. One that is there already stays as it is."""
     taken = users.names()[0]

@@ -1,8 +1,10 @@
 """The staff's pages of packages: a code or a name is sold and shown, and one is ended."""
 
-from radacctd_site.core import Failed, codes, places, web
+import urllib.parse
+
+from radacctd_site.core import Failed, codes, money, places, web
 from radacctd_site.core.features import OPERATOR
-from radacctd_site.packages import logins, packages, paper
+from radacctd_site.packages import logins, packages
 
 # How many of the last logins the page shows.
 LINES = 20
@@ -12,7 +14,7 @@ def form(visit, said="", kind="success", status=200):
     """An operator sees all of the last logins, a cashier those that they sold."""
     where = ("true",) if visit.role == OPERATOR else ("who = ?", visit.name)
     return visit.page("packages/packages.html", status, code=codes.new(), show=packages,
-                      packages=packages.sold(visit.db), quoted=paper.quoted, said=said, kind=kind,
+                      packages=packages.sold(visit.db), quoted=quoted, said=said, kind=kind,
                       logins=list(logins.listed(visit.db, *where, most=LINES)), money=visit.money())
 
 
@@ -34,7 +36,7 @@ def make(visit):
         return form(visit, why, "danger", 422)
     made = logins.drawn(logins.key(), package, code, visit.name, name)
     logins.make(visit.db, places.book(), [made])
-    return web.lead(f"/packages/{paper.quoted(made.account)}")
+    return web.lead(f"/packages/{quoted(made.account)}")
 
 
 def end(visit):
@@ -50,10 +52,23 @@ def end(visit):
     return form(visit, visit.text("%(account)s has ended.", account=it["account"]))
 
 
+def quoted(what):
+    return urllib.parse.quote(what, safe="")
+
+
+def values(db, what):
+    """What the page of a login or of a sheet has."""
+    found, known = logins.named(db, what), packages.every(db)
+    if not found:
+        raise Failed(f"{what} is no code, name, serial number or sheet")
+    return {"name": what, "logins": found, "packages": known, "show": packages,
+            "money": money.of_site(places.SETTINGS)}
+
+
 def cards(visit, what):
     """Cards to print: a cashier has those of logins that they sold."""
     try:
-        found = paper.values(visit.db, what)
+        found = values(visit.db, what)
     except Failed:
         found = {"logins": []}
     mine = [it for it in found["logins"] if visit.role == OPERATOR or it["who"] == visit.name]

@@ -171,6 +171,16 @@ class Selling(Packages):
             self.assertRaisesRegex(Failed, "none.csv", self.make, name="bo")
         self.assertEqual(len(self.book.credits), 1)
 
+    def test_a_code_is_a_key_to_what_is_left_on_it_until_it_ends(self):
+        one, other = self.make(), self.make(name="room 12")
+        whose = lambda text: [it for it in (does(self.db, text) for does in
+                                            features.functions("WHOSE")) if it]
+        for text in (one.secret, one.secret.lower().replace("-", " ")):
+            self.assertEqual(whose(text), [one.account])
+        self.assertEqual([whose(it) for it in (other.secret, codes.new(), "", "room 12")], [[]] * 4)
+        logins.end(self.db, [one.account])
+        self.assertEqual(whose(one.secret), [])
+
     def test_it_logs_in_once_the_book_has_the_sum(self):
         self.book.is_away = True
         one = self.make()

@@ -7,8 +7,8 @@ a browser prints. A withdrawn code stays so, also if an older site.db is put bac
 import csv
 import sys
 
-from radacctd_site.core import Failed, cli, codes, money, names, places, store
-from radacctd_site.vouchers import paper, vouchers
+from radacctd_site.core import Failed, cli, codes, money, names, paper, places, store
+from radacctd_site.vouchers import pages, vouchers
 
 # Above these a person is asked: so many codes, and so much money together.
 ASK_COUNT, ASK_TOTAL = 100, 1000
@@ -92,7 +92,7 @@ def main(words):
         elif words.act == "list":
             show(db, words.sheet)
         elif words.act == "print":
-            print(paper.page(db, words.sheet))
+            print(paper.page("vouchers/sheet.html", pages.values(db, words.sheet)))
         else:
             withdraw(db, book, words, found)
     return 0

@@ -16,4 +16,3 @@ CREATE TABLE IF NOT EXISTS code (code TEXT PRIMARY KEY, sum INTEGER NOT NULL, sh
     withdrawn INTEGER) STRICT;
 CREATE INDEX IF NOT EXISTS code_sheet ON code (sheet);
 """
-PACKAGES = ["python3-segno"]

@@ -1,8 +1,8 @@
 """The pages of printed vouchers: a guest redeems one; the operator makes, prints, withdraws them."""
 
-from radacctd_site.core import Failed, codes, names, people, places, web
+from radacctd_site.core import Failed, codes, money, names, paper, people, places, web
 from radacctd_site.core.desk import DIFFERS, LIMIT, NEW, REPEAT
-from radacctd_site.vouchers import paper, vouchers
+from radacctd_site.vouchers import vouchers
 
 # How many codes a page withdraws in the book at once; the others follow within a minute.
 AT_ONCE = 50
@@ -98,9 +98,17 @@ def withdraw(visit):
         rest=rest + len(ended[AT_ONCE:])))
 
 
+def values(db, sheet):
+    """What the page of a sheet has."""
+    url = places.settings()["url"].rstrip("/") + "/redeem/"
+    return {"codes": vouchers.codes_of(db, sheet), "name": sheet, "url": url,
+            "qr": lambda code: paper.qr(f"{url}?c={code}"),
+            "money": money.of_site(places.SETTINGS)}
+
+
 def sheet(visit, sheet):
     try:
-        found = paper.values(visit.db, sheet)
+        found = values(visit.db, sheet)
     except Failed:
         return visit.say(visit.text("There is no such page."), 404)
     return visit.page("vouchers/sheet.html", base="core/base.html", **found)

@@ -76,7 +76,7 @@ def configuration(book):
     for name, most in LIMITS.items():
         if len(found.get(name, [])) > most - SPARE:
             yield Fault("keys-full", f"{book.config} has {len(found[name])} [[{name}]] of {most}",
-                        "radacctl key expire; take away what no guest and no device uses")
+                        "take away what no guest and no device uses: SITE.md")
 
 
 def secrets(path, clients):

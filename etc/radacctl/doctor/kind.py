@@ -53,7 +53,7 @@ class Kind:
 
     def units(self):
         """The units that are to run and to start with the machine."""
-        return [self.book.unit, *" ".join(self.parts(2)).split(), "radacctd-key.timer"]
+        return [self.book.unit, *" ".join(self.parts(2)).split()]
 
     def words(self):
         return ", ".join(["a site", *filter(None, self.parts(1))])

@@ -324,7 +324,7 @@ def of(answers, config):
         yield Step("put the new plans into the book: radacctd stops for some seconds",
                    lambda: plans_are_in(config.plans), lambda: put_in_force(book))
     yield Fresh("restart radacctd", "radacctd.service", [site.DEFAULTS])
-    yield from map(unit, ("radacctd.service", "radacctd-key.timer"))
+    yield unit("radacctd.service")
 
 
 def put_in_force(book):

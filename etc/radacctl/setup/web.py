@@ -7,7 +7,8 @@ import shlex
 import tempfile
 
 from radacctd_site.core import features, places
-from radacctl import files, money, site, stock
+from radacctd_site.core import codes
+from radacctl import files, money, site
 from radacctl.doctor import look, web as of_web
 from radacctl.setup import steps
 from radacctl.setup.alone import NOTES, Command, File, Folder, is_debians, unit, user
@@ -126,7 +127,7 @@ def settings(old, answers):
 def password_of(name):
     """A person's password, which is made once, and which only root reads."""
     found = re.search(rf"(?m)^{re.escape(name)} (\S+)$", files.text(PASSWORDS))
-    password = found[1] if found else "-".join(stock.letters(5) for _ in range(4))
+    password = found[1] if found else "-".join(codes.letters(5) for _ in range(4))
     line = f"{name} {password}\n"
     notes = lambda old: old if line in (old or "") else with_line(old, line)
     # The older content of setup's own files needs no copy.

@@ -1,0 +1,19 @@
+"""What a browser prints: codes that a phone scans, and pages for a file, which have the style in them."""
+
+import segno
+
+from radacctd_site.core import web
+
+
+def qr(text):
+    """A picture (SVG) of a text for a phone."""
+    return segno.make(text, micro=False).svg_inline(border=1, omitsize=True, svgclass=None,
+                                                    lineclass=None)
+
+
+def page(template, values):
+    """A page for a file, in English."""
+    with open(f"{web.TOP}/core/site.css", encoding="utf-8") as file:
+        style = file.read()
+    return web.environment("en").get_template(template).render(
+        base="core/paper.html", house=web.house(), style=style, **values)
