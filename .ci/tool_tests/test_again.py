@@ -46,10 +46,10 @@ class Folder(tool_tests.Folder):
 class Again(Folder):
     def test_a_book_whose_server_never_ran_gets_new_plans(self):
         """A run that was killed before the server's first start, and a plan more in the file."""
-        for is_there, in_force, found in ((True, None, True), (False, None, False),
+        for is_there, in_force, found in ((True, {}, True), (False, {}, False),
                                           (True, {"default": ()}, True)):
             self.patched(alone, "has_book", lambda it=is_there: it)
-            self.patched(alone.plans, "in_force", lambda it=in_force: it)
+            self.patched(alone, "in_force", lambda it=in_force: it)
             config = mock.Mock(keys={"cashier": "c" * 32}, plans=[PLAN, {"class": "debit"}])
             config.clients = {"books": {"secret": "b" * 32}}
             made = [it for it in alone.of(wanted(), config) if getattr(it, "what", "").startswith(

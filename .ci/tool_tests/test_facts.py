@@ -10,39 +10,35 @@ import threading
 import unittest
 from unittest import mock
 
-from radacctl import desk, files, money, names, plans
+from radacctl import desk, files, money, names
+from radacctd_site.core import accounts, names as kit
 from tool_tests import ROOT
 
 
 class Names(unittest.TestCase):
     def test_spellings_come_back(self):
         for octets in (b"al", b"a,b", b"50%", b'"', b"\\", "Łódź".encode(), bytes(range(256))):
-            self.assertEqual(names.octets_of(names.shown(octets)), octets)
-            self.assertEqual(names.octets_of(names.for_desk(octets)), octets)
+            self.assertEqual(kit.octets_of(kit.shown(octets)), octets)
+            self.assertEqual(kit.octets_of(kit.for_desk(octets)), octets)
 
     def test_desk_takes_no_quotation_mark_as_itself(self):
-        self.assertEqual(names.for_desk(b'a "b\\c%d'), "a %22b%5Cc%25d")
-        self.assertEqual(names.shown(b'a "b\\c%d'), 'a "b\\c%25d')
+        self.assertEqual(kit.for_desk(b'a "b\\c%d'), "a %22b%5Cc%25d")
+        self.assertEqual(kit.shown(b'a "b\\c%d'), 'a "b\\c%25d')
 
     def test_cells_are_no_formula_and_come_back(self):
         for text in ("=1", "'=1", "+49", "a;=1", "a|-b", "al", "@x", "a%3Bb"):
-            written = names.cell(text)
+            written = kit.cell(text)
             self.assertNotIn(written[:1], "=+-@")
-            self.assertEqual(names.text_of_cell(written), text)
+            self.assertEqual(kit.text_of_cell(written), text)
 
     def test_balances_of_another_form_are_refused(self):
-        with tempfile.TemporaryDirectory() as folder:
-            path = os.path.join(folder, "balances.csv")
-            for text in ("", "account,balance\nal,1\n", "account,balance,overrun\nal,1\n",
-                         "class,block,unit,count\nal,1\n", "\0" * 200_000):
-                with open(path, "w", encoding="ascii") as file:
-                    file.write(text)
-                self.assertRaises(ValueError, names.balances_in, path)
-                # Nor are these plans, nor does a power cut that left them end who reads plans.
-                self.assertIsNone(plans.in_force(path))
-            with open(path, "w", encoding="ascii") as file:
-                file.write("account,balance,overrun\na%2Cb,-5,5\n")
-            self.assertEqual(names.balances_in(path), {b"a,b": -5})
+        for text in ("", "account,balance\nal,1\n", "account,balance,overrun\nal,1\n", "\0" * 200_000,
+                     "class,block,unit,count\nal,1\n"):
+            self.assertRaises(ValueError, names.balances_of, text, "balances.csv")
+            # Nor are these plans, nor does a power cut that left them end who reads plans.
+            self.assertEqual(accounts.plans_in(text.splitlines()), {})
+        self.assertEqual(names.balances_of("account,balance,overrun\na%2Cb,-5,5\n", ""),
+                         {b"a,b": -5})
 
 
 class Away(unittest.TestCase):

@@ -9,13 +9,17 @@ import tempfile
 
 from radacctd_site.core import Failed, told
 from radacctd_site.copies import owners, places
-from radacctl import plans, site
+from radacctl import files, site
 from radacctl.doctor import look
 from radacctl.setup import alone, steps
 
 LIST, SUMS, FILES, DUMP = "copy.json", "SHA256SUMS", "files", "radius.sql"
 # The folder of a book that is looked at begins so.
 LOOK = ".look-"
+# The plans of a book, and what is counted by its numbers.
+PLANS = ("SELECT class, block, unit, mode FROM price_plan JOIN plan_count USING (class) "
+         "ORDER BY price_plan.rowid")
+COUNTS = ("both", "in", "out")
 LINE = re.compile(r"([0-9a-f]{64})  (.+)")
 
 
@@ -65,8 +69,9 @@ def listed(folder):
 def plans_of(book):
     """Each plan that a book keeps, as a configuration has it."""
     with told(Unsound, "the plans of the book cannot be read: ", OSError, ValueError):
-        return [alone.block("plan", dict(zip(plans.HEADER, (name.decode("utf-8"), *plan))))
-                for name, plan in plans.of_book(book).items()]
+        return [alone.block("plan", {"class": name.decode("utf-8"), "block": block, "unit": unit,
+                                     "count": COUNTS[mode]})
+                for name, block, unit, mode in files.rows(book, PLANS, is_still=True)]
 
 
 @contextlib.contextmanager

@@ -43,13 +43,21 @@ def known():
         return {}, None
 
 
+def plans_in(lines):
+    """The plans of a list of plans in force by their classes, or none if it is no such list."""
+    try:
+        return {it["class"]: {"block": int(it["block"]), "unit": int(it["unit"]),
+                              "count": it["count"]} for it in csv.DictReader(lines)}
+    except (OSError, ValueError, LookupError, TypeError, csv.Error):
+        return {}
+
+
 def plans():
-    """The plans in force by their classes, or none if nobody knows them."""
+    """Those of the service, or none if nobody knows them."""
     try:
         with open(PLANS, encoding="ascii", newline="") as file:
-            return {it["class"]: {"block": int(it["block"]), "unit": int(it["unit"]),
-                                  "count": it["count"]} for it in csv.DictReader(file)}
-    except (OSError, ValueError, LookupError, TypeError, csv.Error):
+            return plans_in(file)
+    except OSError:
         return {}
 
 

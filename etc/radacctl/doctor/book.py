@@ -7,7 +7,8 @@ import time
 import tomllib
 
 from radacctd_site.core import places
-from radacctl import desk, files, names, plans, site
+from radacctd_site.core import accounts
+from radacctl import desk, files, names, site
 from radacctl.doctor import look
 from radacctl.doctor.faults import Fault
 
@@ -95,21 +96,22 @@ def secrets(path, clients):
 
 def plans_of(book, found):
     """The configuration has the plans in force, and no other one."""
-    force = plans.in_force(book.plans)
-    if force is None:
+    force = accounts.plans_in(files.text(book.plans).splitlines())
+    if not force:
         yield Fault("plan-waits", f"{book.plans} is missing: nobody knows the plans in force",
                     f"systemctl restart {book.unit}")
         return
-    wanted = {names.shown(it): tuple(map(str, plan))
-              for it, plan in plans.in_config(found).items()}
+    wanted = {names.shown(it["class"].encode()): {"count": "both", **it, "class": ""}
+              for it in found.get("plan", [])}
     for name in sorted(set(wanted) - set(force)):
         yield Fault("plan-waits", f"plan {name} of {book.config} is not in force",
                     f"systemctl stop {book.unit}; radacctd plans --config {book.config} "
                     f"--db {book.file}; systemctl start {book.unit}")
     for name in sorted(force):
-        if wanted.get(name) != force[name]:
+        if wanted.get(name) != {**force[name], "class": ""}:
             how = "is another one in" if name in wanted else "is not in"
-            yield Fault("plan-lost", f"plan {name} ({', '.join(force[name])}) of the book {how} "
+            what = ", ".join(map(str, force[name].values()))
+            yield Fault("plan-lost", f"plan {name} ({what}) of the book {how} "
                         f"{book.config}", "write it back as it was: SITE.md")
 
 

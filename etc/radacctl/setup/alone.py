@@ -10,7 +10,8 @@ import socket
 import time
 import tomllib
 
-from radacctl import configuration, desk, files, names, plans, site
+from radacctd_site.core import accounts
+from radacctl import configuration, desk, files, names, site
 from radacctl.doctor import look, machine
 from radacctl.program import told
 from radacctl.setup import steps
@@ -250,9 +251,11 @@ def refuse_if_lost(is_new_wanted):
 
 def plans_are_in(wanted):
     """Whether the book keeps each plan."""
-    found = plans.in_force()
-    wanted = {names.shown(it["class"].encode()) for it in wanted}
-    return found is not None and wanted <= set(found)
+    return {names.shown(it["class"].encode()) for it in wanted} <= set(in_force())
+
+
+def in_force():
+    return accounts.plans_in(files.text(site.PLANS).splitlines())
 
 
 # After a power cut in the middle of an earlier installation, too. Another run of apt is waited for,
@@ -320,7 +323,7 @@ def of(answers, config):
     book = ("--config", site.CONFIG, "--db", site.BOOK)
     yield Command(f"make the book {site.BOOK}", has_book, site.program(), "init", *book)
     # Before a restart, which fails as long as a plan waits. A server that never ran says nothing.
-    if plans.in_force() is not None or has_book():
+    if in_force() or has_book():
         yield Step("put the new plans into the book: radacctd stops for some seconds",
                    lambda: plans_are_in(config.plans), lambda: put_in_force(book))
     yield Fresh("restart radacctd", "radacctd.service", [site.DEFAULTS])
