@@ -10,7 +10,8 @@ import unittest
 import radacctl
 from radacctd_site.core import features
 
-# Runs the tests of who may ask for which page, and shows the commands, of a kit in a folder.
+# Runs the tests of who may ask for which page of a kit in a folder, and loads its commands, parts of
+# the set-up and looks.
 CHECK = """
 import sys, unittest
 sys.path.append(sys.argv[1] + "/..")
@@ -19,6 +20,8 @@ names = ["radacctd_site.core.test_core." + it for it in ("Roles", "Forms", "Lang
 done = unittest.TextTestRunner().run(unittest.defaultTestLoader.loadTestsFromNames(names))
 for name in features.commands():
     cli.parser(name, cli.module_of(name))
+for member in ("SETUP", "LOOKS"):
+    features.modules(member)
 sys.exit(not done.wasSuccessful())
 """
 

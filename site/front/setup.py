@@ -25,8 +25,9 @@ OF_POSTGRESQL = ["freeradius-postgresql", "postgresql-client"]
 # What a site edits. All other files of raddb are ours.
 EDITED = ("settings.conf", "clients.conf", "users.conf")
 UNITS = ("radacctd-front.service", "radacctd-cut.service")
-# What printed codes are digested with, also for who makes them.
-CODES = "/etc/radacctd-codes.key"
+# What codes are digested with, also by the pages that sell them: systemd hands it to their service.
+CODES, PAGES = "/etc/radacctd-codes.key", "radacctd-site.service"
+HANDED = f"/run/credentials/{PAGES}/radacctd-codes.key"
 IS_ON = f"/etc/systemd/system/multi-user.target.wants/{UNITS[0]}"
 # How much of a burst of logins the kernel keeps, in octets.
 BURST, KERNEL = 4_194_304, "/proc/sys/net/core/rmem_max"
@@ -76,6 +77,13 @@ def units(answers):
     yield Fresh("test FreeRADIUS' configuration, and restart it", UNITS[0],
                 [f"{RADDB}/*", f"{CERTS}/*"], test())
     yield from map(alone.unit, UNITS)
+    yield Command("restart the pages' service with the key of codes", is_handed, "systemctl",
+                  "restart", PAGES)
+
+
+def is_handed():
+    """Whether the pages' service has the key, or is not running."""
+    return not os.path.exists(HANDED) or on_disk.text(HANDED) == on_disk.text(CODES)
 
 
 def tries(answers):

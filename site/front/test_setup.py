@@ -140,6 +140,17 @@ class InUse(unittest.TestCase):
                     setup.refuse_if_in_use()
 
 
+class Handed(unittest.TestCase):
+    def test_the_pages_service_is_restarted_until_it_has_the_key_of_codes(self):
+        with tempfile.TemporaryDirectory() as folder, \
+                mock.patch.multiple(setup, HANDED=f"{folder}/handed", CODES=f"{folder}/codes"):
+            found = [setup.is_handed()]
+            for name, text in (("codes", b"key"), ("handed", b""), ("handed", b"key")):
+                files.replace(f"{folder}/{name}", text)
+                found.append(setup.is_handed())
+        self.assertEqual(found, [True, True, False, True])
+
+
 class Configuration(unittest.TestCase):
     def test_radacctd_gets_a_stamped_client_a_free_plan_and_a_key(self):
         with mock.patch("radacctl.site.CONFIG", "/nonexistent"):

@@ -24,4 +24,3 @@ CREATE INDEX IF NOT EXISTS login_sheet ON login (sheet);
 """
 EACH_MINUTE = "logins:settle_each_minute"
 REFUSES, WHOSE = "logins:refuses", "logins:whose"
-SETUP = "setup"

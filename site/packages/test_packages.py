@@ -5,14 +5,13 @@ import hashlib
 import io
 import sqlite3
 import time
-import unittest
 from unittest import mock
 
 from radacctd_site.core import (
     Failed, accounts, acts, codes, corrections, desk, features, minute, store)
 from radacctd_site.core.features import CASHIER, OPERATOR
 from radacctd_site.core.test_client import Browser, Site
-from radacctd_site.packages import logins, packages, setup, users
+from radacctd_site.packages import logins, packages, users
 
 KEY = "key-of-codes-00001"
 CODE = "ACDEF-HJKMN-PQRT" + codes.check_letter("ACDEFHJKMNPQRT")
@@ -412,16 +411,6 @@ class StaffsPage(Packages):
             self.assertEqual(self.sell(browser), 422)
             self.assertEqual(self.minute(), 0)
         self.assertEqual(self.book.asked, [])
-
-
-class SetUp(unittest.TestCase):
-    def test_the_pages_of_a_site_with_front_get_the_key_of_codes(self):
-        for front, host, wanted in ((True, "a.example", True), (False, "a.example", False),
-                                    (True, "", False)):
-            answers = mock.Mock(has_front=front, host=host)
-            found = [it.path for it in setup.files(answers, None)]
-            self.assertEqual(setup.DROP_IN in found, wanted)
-            self.assertEqual(len([*setup.units(answers)]), 2 * wanted)
 
 
 class Store(Site):
