@@ -104,7 +104,7 @@ def by_page(browser, codes, unknown):
     ask(browser, "bo 2", codes[0])
     asked = browser.shows(f"Redeem the voucher {codes[0]} for the account bo 2?", "main")
     check("a question names both", asked, True)
-    browser.click("button[value=no]")
+    browser.click("main a.btn")
     check("no leads back, with what was typed",
           browser.js("return document.getElementById('code').value"), codes[0])
     for account, code, said in (

@@ -1,6 +1,7 @@
 """What the features share, and how a command says why it did not do all."""
 
 import contextlib
+import time
 
 
 class Failed(Exception):
@@ -18,3 +19,8 @@ def told(kind, before, *faults, after=""):
         yield
     except faults or OSError as why:
         raise kind(f"{before}{getattr(why, 'strerror', None) or why}{after}") from None
+
+
+def moment(seconds):
+    """A moment by the clock of the site, which is read alike in each language."""
+    return time.strftime("%Y-%m-%d %H:%M", time.localtime(seconds))

@@ -23,7 +23,8 @@ def parser(name, module):
     it = argparse.ArgumentParser(
         prog=f"radacctl {name}", description=module.__doc__, allow_abbrev=False,
         formatter_class=argparse.RawDescriptionHelpFormatter)
-    module.arguments(it)
+    if hasattr(module, "arguments"):
+        module.arguments(it)
     return it
 
 

@@ -10,12 +10,7 @@ from radacctd_site.core import Failed, acts, features, places, store
 LONGEST = 600
 
 
-def arguments(it):
-    del it
-
-
-def main(words):
-    del words
+def main(_):
     book = places.book()
     places.become_user()
     with store.opened() as db:

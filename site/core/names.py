@@ -68,7 +68,8 @@ def why_not(name):
     except UnicodeDecodeError:
         return "it is not UTF-8"
     if other := OTHER.search(text):
-        return f"it has {shown(other[0].encode())}, and a name has letters, digits, spaces and . _ @ -"
+        mark = shown(other[0].encode())
+        return f"it has {mark}, and a name has letters, digits, spaces and . _ @ -"
     if not FIRST.match(text) or text.endswith(" "):
         return "it begins with a space or . @ -, or ends with a space"
     return None

@@ -1,4 +1,4 @@
-"""What a browser prints: codes that a phone scans, and pages for a file, which have the style in them."""
+"""What a browser prints: codes that a phone scans, and pages for a file with the style in them."""
 
 import segno
 
@@ -16,4 +16,4 @@ def page(template, values):
     with open(f"{web.TOP}/core/site.css", encoding="utf-8") as file:
         style = file.read()
     return web.environment("en").get_template(template).render(
-        base="core/paper.html", house=web.house(), style=style, **values)
+        base="core/paper.html", language="en", house=web.house(), style=style, **values)

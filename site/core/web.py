@@ -11,13 +11,13 @@ import re
 import secrets
 import sqlite3
 import sys
-import time
 import urllib.parse
 
 import bottle
 import jinja2
 
-from radacctd_site.core import Failed, accounts, features, money, names, people, places, store
+from radacctd_site.core import (
+    Failed, accounts, features, moment, money, names, people, places, store)
 from radacctd_site.core.features import ANYBODY, NOBODY, STAFF, TOP
 
 COOKIE, LANGUAGES = "__Host-radacctd", {"en": "English", "de": "Deutsch", "fr": "Français"}
@@ -78,8 +78,8 @@ class Visit:
         """Why nothing is sold to an account, as its reader understands it, or ""."""
         if names.why_not(account):
             return self.text(
-                "Nobody can log in as %(name)s. A name begins with a letter or a digit. It has at most "
-                "60 letters, digits, spaces and . _ @ -", name=account)
+                "Nobody can log in as %(name)s. A name begins with a letter or a digit. It has at "
+                "most 60 letters, digits, spaces and . _ @ -", name=account)
         return accounts.refused(self.db, account, self.text) or ""
 
     def set_token(self, token):
@@ -115,9 +115,7 @@ class Visit:
         size, name = (octets / 1e9, "GB") if octets >= 1e9 else (octets / 1e6, "MB")
         return f"{self.spelled(f'{size:.1f}')}\u00a0{name}"
 
-    def moment(self, seconds):
-        """A moment by the clock of the site, which is read alike in each language."""
-        return time.strftime("%Y-%m-%d %H:%M", time.localtime(seconds))
+    moment = staticmethod(moment)
 
     def page(self, template, status=200, **values):
         """A page by its template; what stands in it is escaped."""

@@ -38,9 +38,10 @@ def change(visit):
     account, text = visit.field("account"), visit.text
     if visit.field("act") == "end":
         with visit.db as db:
-            is_ended = db.execute("DELETE FROM card WHERE account = ?", (account,)).rowcount
-        return form(visit, text("The card of %(account)s has ended.", account=account)) if is_ended \
-            else form(visit, text("%(account)s has no card.", account=account), "danger", 404)
+            ended = db.execute("DELETE FROM card WHERE account = ?", (account,)).rowcount
+        if not ended:
+            return form(visit, text("%(account)s has no card.", account=account), "danger", 404)
+        return form(visit, text("The card of %(account)s has ended.", account=account))
     if why := visit.why_not(account):
         return form(visit, why, "danger", 422)
     had = visit.db.execute("SELECT made FROM card WHERE account = ?", (account,)).fetchone()

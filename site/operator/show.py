@@ -1,16 +1,10 @@
 """Prints what the book has of an account: its balance, what was credited, its sessions."""
 
-import time
-
-from radacctd_site.core import Failed, accounts, acts, money, names, places, store
+from radacctd_site.core import Failed, accounts, acts, moment, money, names, places, store
 
 
 def arguments(it):
     it.add_argument("account", help="its name; % and two digits are an octet")
-
-
-def moment(seconds):
-    return time.strftime("%Y-%m-%d %H:%M", time.localtime(seconds))
 
 
 def main(words):

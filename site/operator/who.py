@@ -2,16 +2,11 @@
 
 import time
 
-from radacctd_site.core import Failed, accounts, places
+from radacctd_site.core import Failed, accounts, moment, places
 from radacctd_site.operator import sessions
 
 
-def arguments(it):
-    del it
-
-
-def main(words):
-    del words
+def main(_):
     book = places.book()
     places.become_user()
     known, _ = accounts.balances()
@@ -20,7 +15,6 @@ def main(words):
         raise Failed(f"the book tells no sessions: is radacctd up, and has the key of {places.KEY} "
                      "`accounts = true`?")
     for it in sessions.on(found, time.time()):
-        since = time.strftime("%Y-%m-%d %H:%M", time.localtime(it["first"]))
-        print(f"{it['account']:24} {it['calling']:18} {it['client']:20} since {since}, "
-              f"{it['total']:,} octets")
+        print(f"{it['account']:24} {it['calling']:18} {it['client']:20} "
+              f"since {moment(it['first'])}, {it['total']:,} octets")
     return 0

@@ -9,7 +9,7 @@ import csv
 import datetime
 import sys
 
-from radacctd_site.core import Failed, cli, codes, money, names, paper, places, store
+from radacctd_site.core import Failed, cli, codes, moment, money, names, paper, places, store
 from radacctd_site.packages import logins, packages, pages
 
 # Above these a person is asked: so many codes, and so much money together.
@@ -65,7 +65,7 @@ def show(db, what):
     writer, site = csv.writer(sys.stdout, lineterminator="\n"), money.of_site(places.SETTINGS)
     writer.writerow(COLUMNS)
     for it in found:
-        row = {**it, "sum": site.plain(it["sum"]), "made": packages.moment(it["made"])}
+        row = {**it, "sum": site.plain(it["sum"]), "made": moment(it["made"])}
         writer.writerow([names.cell(str(row[name])) for name in COLUMNS])
 
 

@@ -6,7 +6,7 @@ what the book credits to the login's account; by the plan of radacctd it is used
 """
 
 
-from radacctd_site.core import Failed, accounts, cli, money, names, places, store
+from radacctd_site.core import Failed, accounts, cli, moment, money, names, places, store
 from radacctd_site.packages import logins, packages, users
 
 # Each option of `put`: what reads its text, what `no` makes of it, and what it is.
@@ -79,7 +79,7 @@ def show(db):
         parts = [site.shown(it.sum), f"plan {it.plan}", packages.rate(it),
                  f"{it.devices} devices" if it.devices else "",
                  f"{packages.span(it.valid)} from the first login" if it.valid else "",
-                 f"until {packages.moment(it.until)}" if it.until else "",
+                 f"until {moment(it.until)}" if it.until else "",
                  f"then {it.slow}" if it.slow else ""]
         states = [row["state"] for row in logins.listed(db, "package = ?", name)]
         counts = ", ".join(f"{state} {states.count(state)}" for state in logins.STATES)

@@ -7,7 +7,8 @@ import collections
 import re
 import time
 
-from radacctd_site.core import Failed
+# Templates show a moment by this module.
+from radacctd_site.core import Failed, moment
 
 NAME = re.compile("[a-z0-9][a-z0-9-]{0,23}")
 SPEED, RATE = re.compile("([0-9]{1,7})([kM])/([0-9]{1,7})([kM])"), {"k": 1, "M": 1000}
@@ -124,10 +125,6 @@ def span(seconds):
     """Seconds as people read them in each language."""
     name, each = next((it, each) for it, each in reversed(UNITS.items()) if seconds % each == 0)
     return f"{seconds // each}\u00a0{'min' if name == 'm' else name}"
-
-
-def moment(seconds):
-    return time.strftime("%Y-%m-%d %H:%M", time.localtime(seconds))
 
 
 def rate(it):

@@ -47,7 +47,11 @@ def end(visit):
         return form(visit, visit.text("There is no such login, or it has ended."), "danger", 404)
     [it] = found
     if not visit.field("sure"):
-        return visit.page("packages/end.html", login=it)
+        return visit.page(
+            "core/asked.html", title=it["account"], kind="danger", path="/packages/", more=(),
+            question=visit.text("End it for ever? What is left on it cannot be used."),
+            fields={"act": "end", "what": it["account"]}, yes=visit.text("End it"),
+            no=visit.text("Keep it"), back="/packages/")
     logins.end(visit.db, [it["account"]])
     return form(visit, visit.text("%(account)s has ended.", account=it["account"]))
 

@@ -1,5 +1,7 @@
 """The pages of printed vouchers: a guest redeems one; the operator makes, prints, withdraws them."""
 
+import urllib.parse
+
 from radacctd_site.core import Failed, codes, money, names, paper, people, places, web
 from radacctd_site.core.desk import DIFFERS, LIMIT, NEW, REPEAT
 from radacctd_site.vouchers import vouchers
@@ -9,7 +11,8 @@ AT_ONCE = 50
 
 
 def form(visit):
-    return asked(visit, code=visit.request.query.getunicode("c") or "")
+    given = visit.request.query
+    return asked(visit, given.getunicode("account") or "", given.getunicode("c") or "")
 
 
 def asked(visit, account="", code="", said="", status=200):
@@ -25,9 +28,7 @@ def redeem(visit):
     if not visit.field("sure"):
         if (read := codes.read(code)) is None:
             return asked(visit, account, code, *text_of(visit, "bad code", account, 0))
-        return visit.page("vouchers/sure.html", account=account, code=read)
-    if visit.field("sure") == "no":
-        return asked(visit, account, code)
+        return sure(visit, account, read)
     address = people.network_of(visit.address)
     if not people.may_try(visit.db, "code", address):
         return asked(visit, account, code, visit.text("Too many tries: wait a minute."), 429)
@@ -36,6 +37,16 @@ def redeem(visit):
         people.forget_try(visit.db, "code", address)
     text, status = text_of(visit, said, account, total)
     return asked(visit, account, "" if status == 200 else code, text, status)
+
+
+def sure(visit, account, code):
+    text, fields = visit.text, {"account": account, "code": code}
+    more = text("Capitals and spaces of the account count. Then it cannot go to another account.")
+    return visit.page(
+        "core/asked.html", title=text("Redeem a voucher"), kind="primary", path="/redeem/",
+        question=text("Redeem the voucher %(code)s for the account %(account)s?", **fields),
+        more=[more], fields=fields, yes=text("Redeem"), no=text("Change"),
+        back=f"/redeem/?{urllib.parse.urlencode({'account': account, 'c': code})}")
 
 
 def text_of(visit, said, account, total):

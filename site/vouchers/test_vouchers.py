@@ -1,7 +1,9 @@
 """Codes, sheets, the guests' page and the operator's, over a book in memory."""
 
 import contextlib
+import html
 import io
+import re
 import sqlite3
 import threading
 from unittest import mock
@@ -191,8 +193,8 @@ class GuestsPage(Sheet):
         self.assertIn("Nothing was added", browser.text)
         self.assertEqual(self.sure(browser, "bo", self.codes[0]), 409)
 
-    def sure(self, browser, account, code, answer="yes"):
-        return browser.post("/redeem/", account=account, code=code, sure=answer)
+    def sure(self, browser, account, code):
+        return browser.post("/redeem/", account=account, code=code, sure="yes")
 
     def test_each_fault_is_said(self):
         browser = Browser(self.app)
@@ -204,7 +206,10 @@ class GuestsPage(Sheet):
         self.book.is_away = True
         self.assertEqual(self.sure(browser, "al", self.codes[0]), 503)
         self.assertIn("Nothing is lost", browser.text)
-        self.assertEqual(self.sure(browser, "al", self.codes[0], "no"), 200)
+        browser.post("/redeem/", account="al", code=self.codes[0])
+        back = html.unescape(re.search(r'href="(/redeem/[^"]+)"', browser.text)[1])
+        self.assertEqual((browser.get(back), 'value="al"' in browser.text), (200, True))
+        self.assertIn(self.codes[0], browser.text)
 
     def test_who_guesses_codes_is_stopped(self):
         browser = Browser(self.app)
