@@ -1,20 +1,49 @@
-"""What live tests share: the pages' service by gunicorn, over a book's desk, and a browser of it."""
+"""What live tests share: the program, the pages' service by gunicorn over its desk, a browser, kills
+and a full disk.
 
+`served` is interop's: a live test puts that folder into the path before it calls what needs it.
+"""
+
+import collections
+import contextlib
 import http.client
+import importlib
 import json
 import os
+import random
 import re
 import signal
 import socket
 import subprocess
+import sys
+import tempfile
+import threading
 import time
 import urllib.parse
 
-from radacctd_site.core import features
+from radacctd_site.core import corrections, features
 
 SETTINGS = {"name": "Hotel Łódź", "url": "https://localhost", "currency": "EUR", "decimals": 2}
 # The secret of the client that corrects, as interop's servers have it.
 SECRET, GUNICORN = "testing-123", "/usr/bin/gunicorn"
+# The key of the pages, and what a configuration has for it and for corrections.
+KEY, PASSWORD = "site-key-000000001", "a-long-enough-one"
+MORE = f"""
+[[key]]
+token = "{KEY}"
+cashier = true
+accounts = true
+
+[[client]]
+name = "{corrections.CLIENT}"
+address = "{corrections.SOURCE}"
+secret = "{SECRET}"
+
+[[plan]]
+class = "{corrections.CLASS}"
+block = 1
+unit = 1
+"""
 # What runs a command of a feature, where the kit is found as `kit` says.
 COMMAND = "import sys; from radacctd_site.core import cli; sys.exit(cli.main(sys.argv[1], sys.argv[2:]))"
 
@@ -161,3 +190,119 @@ class Remote(Browser):
             caller.close()
         self.keep_cookies()
         return answer.status
+
+
+def program(folder):
+    """The built program in a folder, into which it writes balances and plans."""
+    served = importlib.import_module("served")
+
+    class Program(served.Server):
+        def start(self):
+            self.list_plans(folder)
+            super().start(1 << 62, ["--balances", f"{folder}/balances.csv",
+                                    "--balances-every", "1"])
+
+    os.mkdir(folder)
+    found = Program(folder)
+    found.folder = folder
+    with open(found.config, "a", encoding="utf-8") as file:
+        file.write(MORE)
+    found.init()
+    found.start()
+    return found
+
+
+def over_program(test):
+    """The status of a live test, which gets the program, the pages' service, and a folder."""
+    with tempfile.TemporaryDirectory() as folder:
+        server = program(f"{folder}/book")
+        service = Service(f"{folder}/site", server.desk, KEY)
+        service.of_book(server.folder, server.radius)
+        try:
+            test(server, service.start(), folder)
+        finally:
+            service.kill()
+            server.kill()
+    failures = importlib.import_module("served").failures
+    print("failed:", failures)
+    return 1 if failures else 0
+
+
+def cashier(service, name="anna"):
+    """A browser of a cashier who has logged in."""
+    service.run("person", "put", name, stdin=None, input=f"{PASSWORD}\n")
+    found = service.browser()
+    found.name = name
+    found.post("/login/", name=name, password=PASSWORD)
+    return found
+
+
+def injected(service, call, when, what, *words, **how):
+    """The status of a command over whose so-manieth call something comes."""
+    traced = ["strace", "-f", "-qq", "-o", os.devnull, "-e", f"trace={call}",
+              "-e", f"inject={call}:{what}:when={when}", *service.words(*words)]
+    return subprocess.run(traced, env=service.env, capture_output=True, **how).returncode
+
+
+@contextlib.contextmanager
+def small_disk(server, folder):
+    """The pages' service with its store on a disk of 1 MB; None if nothing can be mounted here."""
+    place = os.path.join(folder, "full")
+    os.mkdir(place)
+    if subprocess.run(["mount", "-t", "tmpfs", "-o", "size=1m", "tmpfs", place]).returncode:
+        print("left out: a full disk, since nothing can be mounted here")
+        yield None
+        return
+    service = Service(place, server.desk, KEY)
+    service.of_book(server.folder, server.radius)
+    try:
+        yield service.start()
+    finally:
+        service.kill()
+        subprocess.run(["umount", "-l", place], check=True)
+
+
+def fill(service):
+    """Fills the disk of the service; the file to remove for space."""
+    path = f"{service.folder}/fill"
+    with contextlib.suppress(OSError), open(path, "wb", buffering=0) as file:
+        while file.write(bytes(4096)):
+            pass
+    return path
+
+
+class Chaos:
+    """Threads at work, while the service and the book are killed at random moments."""
+
+    def __init__(self, server, service):
+        """KILLS of the command line says how often, and RADACCTD_SEED when."""
+        self.server, self.service = server, service
+        self.kills = int(sys.argv[1]) if sys.argv[1:] else 200
+        self.pick = random.Random(int(os.environ.get("RADACCTD_SEED", "82")))
+        self.end, self.lock, self.counts = False, threading.Lock(), collections.Counter()
+
+    def disturb(self):
+        """Kills the service, or a book, and starts it again."""
+        time.sleep(self.pick.uniform(0, 0.5))
+        it = self.server if self.pick.random() < 0.25 else self.service
+        it.kill()
+        time.sleep(self.pick.uniform(0, 0.1))
+        it.start()
+        self.counts["kills"] += 1
+
+    def run(self, *works):
+        """Kills until it was often enough, while threads do what they are given."""
+        served = importlib.import_module("served")
+        threads, failures = [threading.Thread(target=it) for it in works], served.failures
+        for it in threads:
+            it.start()
+        with open(os.devnull, "w", encoding="ascii") as quiet, contextlib.redirect_stdout(quiet):
+            for _ in range(self.kills):
+                self.disturb()
+        self.end = True
+        for it in threads:
+            it.join()
+        served.check("each start of the book was well", served.failures, failures)
+        # What has no answer yet gets one.
+        while self.service.run("minute")[1]:
+            pass

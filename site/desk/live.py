@@ -14,18 +14,15 @@ RADACCTD_SEED chooses the moments. It needs Debian's gunicorn, python3-bottle, p
 python3-segno and strace. It ends with 0 if all is as it should be, else with 1.
 """
 
-import collections
 import contextlib
 import csv
+import functools
 import os
 import random
 import re
 import shutil
 import sqlite3
-import subprocess
 import sys
-import tempfile
-import threading
 import time
 
 sys.dont_write_bytecode = True
@@ -33,62 +30,30 @@ ROOT = os.path.dirname(os.path.dirname(os.path.dirname(os.path.realpath(__file__
 sys.path[:0] = [os.path.join(ROOT, it) for it in ("interop", "etc")]
 
 import radacctl  # it finds the kit
-import served
 from radacctd_site.core import codes, corrections, live, names
-from radacctd_site.core.live import Service
-from served import PLANS, check, report
+from radacctd_site.core.live import cashier
+from served import check, report
 
-ACCOUNTS, PASSWORD = ("alice", "bob", "müller", "room 12"), "a-long-enough-one"
-KEY = "site-key-000000001"
-MORE = f"""
-[[key]]
-token = "{KEY}"
-cashier = true
-accounts = true
-
-[[client]]
-name = "{corrections.CLIENT}"
-address = "{corrections.SOURCE}"
-secret = "{live.SECRET}"
-"""
-DEBIT = f'\n[[plan]]\nclass = "{corrections.CLASS}"\nblock = 1\nunit = 1\n'
+ACCOUNTS = ("alice", "bob", "müller", "room 12")
 
 
-class Server(served.Server):
-    """The program with what a correction needs; it writes balances and plans into its folder."""
-
-    def __init__(self, folder):
-        super().__init__(folder, PLANS + DEBIT)
-        self.folder = folder
-        with open(self.config, "a", encoding="utf-8") as file:
-            file.write(MORE)
-
-    def start(self, *more):
-        self.list_plans(self.folder)
-        super().start(1 << 62, ["--balances", f"{self.folder}/balances.csv",
-                                "--balances-every", "1"])
-
-    def sold(self):
-        """The account and the sum of each number that the book has."""
-        return {row[0]: (names.octets_of(row[1]).decode(), int(row[2]))
-                for row in csv.reader(self.export("topups")[1:])}
-
-    def taken(self):
-        """The same of what was taken back; no number may be there twice."""
-        rows = [it for it in csv.DictReader(self.export("sessions"))
-                if it["client"] == corrections.CLIENT]
-        check("no correction is there twice", len({it["session"] for it in rows}), len(rows))
-        return {it["session"]: (names.octets_of(it["account"]).decode(), int(it["charged"]))
-                for it in rows}
+def sold(server):
+    """The account and the sum of each number that the book has. Who serves it has it alone."""
+    server.kill()
+    rows = list(csv.reader(server.export("topups")[1:]))
+    server.start()
+    return {row[0]: (names.octets_of(row[1]).decode(), int(row[2])) for row in rows}
 
 
-def cashier(service, name):
-    """A browser of a cashier who has logged in."""
-    service.run("person", "put", name, stdin=None, input=f"{PASSWORD}\n")
-    found = service.browser()
-    found.name = name
-    found.post("/login/", name=name, password=PASSWORD)
-    return found
+def taken(server):
+    """The same of what was taken back; no number may be there twice."""
+    server.kill()
+    rows = [it for it in csv.DictReader(server.export("sessions"))
+            if it["client"] == corrections.CLIENT]
+    server.start()
+    check("no correction is there twice", len({it["session"] for it in rows}), len(rows))
+    return {it["session"]: (names.octets_of(it["account"]).decode(), int(it["charged"]))
+            for it in rows}
 
 
 def sell(browser, account, number=None, total="5.00"):
@@ -110,8 +75,8 @@ def by_page(server, service):
     sell(bert, "bob", number)
     check("another's number sells nothing", "Nothing was sold" in bert.text, True)
     sell(anna, "alice", number)
+    check("the book has it once", sold(server), {number: ("alice", 500)})
     server.kill()
-    check("the book has it once", server.sold(), {number: ("alice", 500)})
     other = sell(anna, "bob")
     check("while the book is away the page says so", "Not sold yet" in anna.text, True)
     check("and takes nothing back", anna.post("/desk/back/", "/desk/", number=number, sure="yes"),
@@ -130,9 +95,7 @@ def by_page(server, service):
     check("the ledger", service.run("sales")[1].count("net 10.00 EUR"), 1)
     anna.post("/desk/shift/", sure="yes")
     check("a shift ends", "The shift has ended" in anna.text, True)
-    server.kill()
-    check("the book has one correction", server.taken(), {number: ("alice", 500)})
-    server.start()
+    check("the book has one correction", taken(server), {number: ("alice", 500)})
 
 
 def balance_of(service, account, wanted):
@@ -156,14 +119,12 @@ def sessions(server, service, browser):
         check(f"radacctl {command[0]}", (status, "3,145,728 octets" in said), (0, True))
 
 
-class Chaos:
-    """Cashiers at once, while the service and the book are killed."""
+class Chaos(live.Chaos):
+    """Cashiers at once."""
 
-    def __init__(self, server, service, kills, seed):
-        self.server, self.service, self.kills = server, service, kills
-        self.pick, self.end, self.lock = random.Random(seed), False, threading.Lock()
+    def __init__(self, server, service):
+        super().__init__(server, service)
         self.numbers, self.sold, self.back = [], set(), set()
-        self.counts = collections.Counter()
 
     def cashier(self, name):
         pick, browser = random.Random(name), None
@@ -196,47 +157,23 @@ class Chaos:
                 with self.lock:
                     self.back.add((number, account))
 
-    def disturb(self):
-        """Kills the service, or a book, and starts it again."""
-        time.sleep(self.pick.uniform(0, 0.5))
-        it = self.server if self.pick.random() < 0.3 else self.service
-        it.kill()
-        time.sleep(self.pick.uniform(0, 0.1))
-        it.start()
-
-    def run(self):
-        threads = [threading.Thread(target=self.cashier, args=(f"c{at}",)) for at in range(4)]
-        for it in threads:
-            it.start()
-        failures = served.failures
-        with open(os.devnull, "w", encoding="ascii") as quiet, contextlib.redirect_stdout(quiet):
-            for _ in range(self.kills):
-                self.disturb()
-        self.end = True
-        for it in threads:
-            it.join()
-        check("each start of the book was well", served.failures, failures)
-
     def judge(self):
-        """What the book has at last."""
-        while self.service.run("minute")[1]:
-            pass
-        self.server.kill()
-        sold, taken = self.server.sold(), self.server.taken()
-        self.server.start()
-        lost = [it for it in self.sold if sold.get(it[0]) != (it[1], 500)]
+        """Sells and kills; what the book has at last."""
+        self.run(*[functools.partial(self.cashier, f"c{at}") for at in range(4)])
+        had, back = sold(self.server), taken(self.server)
+        lost = [it for it in self.sold if had.get(it[0]) != (it[1], 500)]
         check(f"{len(self.sold)} were called sold: the book has each", lost, [])
-        lost = [it for it in self.back if taken.get(it[0]) != (it[1], 500)]
+        lost = [it for it in self.back if back.get(it[0]) != (it[1], 500)]
         check(f"{len(self.back)} were called taken back: the book has each", lost, [])
-        wrong = [it for it, found in taken.items() if sold.get(it) != found]
+        wrong = [it for it, found in back.items() if had.get(it) != found]
         check("nothing is taken back that is not sold", wrong, [])
         with contextlib.closing(sqlite3.connect(f"{self.service.folder}/site/site.db")) as db:
             rows = {(number, names.octets_of(account).decode(), total) for number, account, total in
                     db.execute("SELECT number, account, sum FROM act WHERE answer <> 'differs'")}
-        found = {(it, *of) for it, of in sold.items()}
-        found |= {(it, who, -total) for it, (who, total) in taken.items()}
+        found = {(it, *of) for it, of in had.items()}
+        found |= {(it, who, -total) for it, (who, total) in back.items()}
         check("site.db has what the book has, and nothing else", rows ^ found, set())
-        print(f"          {dict(self.counts)}; {len(sold)} sold, {len(taken)} taken back")
+        print(f"          {dict(self.counts)}; {len(had)} sold, {len(back)} taken back")
 
 
 def stepped(server, service):
@@ -248,11 +185,8 @@ def stepped(server, service):
                 numbers.add(number := f"F-{codes.letters(12).upper()}")
                 with open(path, "w", encoding="ascii") as file:
                     file.write(f"voucher,account,sum\n{number},alice,5\nB{number},bob,-2\n")
-                words = ["strace", "-f", "-qq", "-o", os.devnull, "-e", f"trace={call}", "-e",
-                         f"inject={call}:{what}:when={when}", *service.words("sell")]
                 with open(path, encoding="ascii") as file:
-                    status = subprocess.run(words, env=service.env, stdin=file,
-                                            capture_output=True).returncode
+                    status = live.injected(service, call, when, what, "sell", stdin=file)
                     kills += status != 0
                     file.seek(0)
                     said = service.run("sell", stdin=file)
@@ -261,41 +195,27 @@ def stepped(server, service):
                 if status == 0:
                     break
     check("stopped as it sells: the next run does it, once", wrong, [])
-    server.kill()
-    sold = {it for it, of in server.sold().items() if it[:2] == "F-" and of == ("alice", 5)}
-    taken = {it[1:] for it, of in server.taken().items() if it[:3] == "BF-" and of == ("bob", 2)}
-    server.start()
+    had = {it for it, of in sold(server).items() if of == ("alice", 5)}
+    back = {it[1:] for it, of in taken(server).items() if of == ("bob", 2)}
     check("it was stopped some times, and each is there once",
-          (kills > 10, numbers - sold, numbers - taken), (True, set(), set()))
+          (kills > 10, numbers - had, numbers - back), (True, set(), set()))
 
 
 def full_disk(server, folder):
     """site.db on a disk that is full: nothing is sold, and nothing sent."""
-    place = os.path.join(folder, "full")
-    os.mkdir(place)
-    if subprocess.run(["mount", "-t", "tmpfs", "-o", "size=1m", "tmpfs", place]).returncode:
-        return print("left out: a full disk, since nothing can be mounted here")
-    service = Service(place, server.desk, KEY)
-    service.of_book(server.folder, server.radius)
-    try:
-        service.start()
-        browser = cashier(service, "anna")
+    with live.small_disk(server, folder) as service:
+        if service is None:
+            return
+        browser = cashier(service)
         browser.post("/desk/", account="carl", sum="5.00")
         number = re.search(r'name="number" value="([^"]+)"', browser.text)[1]
-        with contextlib.suppress(OSError), open(f"{place}/fill", "wb", buffering=0) as file:
-            while file.write(bytes(4096)):
-                pass
+        full = live.fill(service)
         fields = {"account": "carl", "sum": "5.00", "number": number, "sure": "yes"}
         check("on a full disk nothing is sold", browser.post("/desk/", **fields), 503)
         check("and the page says so", "Nothing was sold, and nothing was" in browser.text, True)
-        os.remove(f"{place}/fill")
-        server.kill()
-        check("the book has nothing of it", number in server.sold(), False)
-        server.start()
+        os.remove(full)
+        check("the book has nothing of it", number in sold(server), False)
         check("with space again it is sold", browser.post("/desk/", **fields), 303)
-    finally:
-        service.kill()
-        subprocess.run(["umount", "-l", place], check=True)
 
 
 def older(server, service):
@@ -323,31 +243,13 @@ def older(server, service):
     server.start()
 
 
-def main():
-    kills = int(sys.argv[1]) if sys.argv[1:] else 200
-    seed = int(os.environ.get("RADACCTD_SEED", "82"))
-    with tempfile.TemporaryDirectory() as folder:
-        os.mkdir(f"{folder}/book")
-        server = Server(f"{folder}/book")
-        server.init()
-        server.start()
-        service = Service(f"{folder}/site", server.desk, KEY)
-        service.of_book(server.folder, server.radius)
-        try:
-            service.start()
-            by_page(server, service)
-            chaos = Chaos(server, service, kills, seed)
-            chaos.run()
-            chaos.judge()
-            stepped(server, service)
-            older(server, service)
-            full_disk(server, folder)
-        finally:
-            service.kill()
-            server.kill()
-    print("failed:", served.failures)
-    return 1 if served.failures else 0
+def test(server, service, folder):
+    by_page(server, service)
+    Chaos(server, service).judge()
+    stepped(server, service)
+    older(server, service)
+    full_disk(server, folder)
 
 
 if __name__ == "__main__":
-    sys.exit(main())
+    sys.exit(live.over_program(test))

@@ -10,19 +10,17 @@ if all is as it should be, else with 1.
 import os
 import re
 import sys
-import tempfile
 
 sys.dont_write_bytecode = True
 ROOT = os.path.dirname(os.path.dirname(os.path.dirname(os.path.realpath(__file__))))
 sys.path[:0] = [os.path.join(ROOT, it) for it in ("interop", "etc")]
 
 import radacctl  # it finds the kit
-import served
-from radacctd_site.core.live import Service
+from radacctd_site.core import live
+from radacctd_site.core.live import KEY, cashier
 from served import check, report
 
-MB, KEY, PASSWORD = 10**6, "site-key-000000001", "a-long-enough-one"
-MORE = f'\n[[key]]\ntoken = "{KEY}"\ncashier = true\naccounts = true\n'
+MB = 10**6
 
 
 def shows(browser, *texts):
@@ -33,13 +31,6 @@ def shows(browser, *texts):
 def sold(server, total, number):
     body = f'{{"account":"room 12","sum":{total},"voucher":"{number}"}}'
     return server.curl("POST", "/topups", KEY, body)[0]
-
-
-def cashier(service):
-    service.run("person", "put", "anna", stdin=None, input=f"{PASSWORD}\n")
-    browser = service.browser()
-    browser.post("/login/", name="anna", password=PASSWORD)
-    return browser
 
 
 def card(browser, account, **fields):
@@ -79,7 +70,7 @@ def refuses(server, service, browser, key):
     check("a key of no shape", service.browser().post("/", key="x"), 422)
     server.kill()
     check("the book is away", (browser.get("/"), shows(browser, "Nothing is lost")), (503, []))
-    server.start(1 << 62)
+    server.start()
     check("it is back, and the key still known", browser.get("/"), 200)
     check("the key is forgotten", browser.post("/", act="forget"), 303)
     browser.get("/")
@@ -92,26 +83,9 @@ def refuses(server, service, browser, key):
     check("and the one before nothing", browser.get("/"), 404)
 
 
-def main():
-    with tempfile.TemporaryDirectory() as folder:
-        os.mkdir(f"{folder}/book")
-        server = served.Server(f"{folder}/book")
-        with open(server.config, "a", encoding="utf-8") as file:
-            file.write(MORE)
-        server.init()
-        server.list_plans(folder)
-        server.start(1 << 62)
-        service = Service(f"{folder}/site", server.desk, KEY)
-        service.env["RADACCTD_PLANS"] = f"{folder}/plans.csv"
-        try:
-            service.start()
-            refuses(server, service, *looks(server, service))
-        finally:
-            service.kill()
-            server.kill()
-    print("failed:", served.failures)
-    return 1 if served.failures else 0
+def test(server, service, _):
+    refuses(server, service, *looks(server, service))
 
 
 if __name__ == "__main__":
-    sys.exit(main())
+    sys.exit(live.over_program(test))

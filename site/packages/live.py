@@ -21,7 +21,6 @@ import random
 import re
 import shutil
 import sqlite3
-import subprocess
 import sys
 import tempfile
 import threading
@@ -37,11 +36,11 @@ import served
 import start_site
 import test_lab as lab
 import test_radius as radius
-from radacctd_site.core import codes
+from radacctd_site.core import codes, live
 from radacctd_site.core.live import Service
 from served import check
 
-CODE_KEY, PASSWORD = "0123456789abcdef0123", "a-long-enough-one"
+CODE_KEY = "0123456789abcdef0123"
 SPEED = (radius.MIKROTIK, 8)
 WEEK = ("week", "--plan", "gold", "--sum", "9.00", "--devices", "2", "--valid", "7d", "--speed",
         "20M/5M", "--slow", "crawl")
@@ -94,14 +93,8 @@ class Site:
         self.service.write("radacctd-codes.key", CODE_KEY + "\n")
         self.service.write("balances.csv", "account,balance,overrun\n")
         self.service.env["RADACCTD_BALANCES"] = front.path("service", "balances.csv")
-        self.service.run("person", "put", "anna", input=PASSWORD + "\n", stdin=None)
         self.service.start()
-        self.browser = self.logged_in()
-
-    def logged_in(self):
-        browser = self.service.browser()
-        check("a cashier logs in", browser.post("/login/", name="anna", password=PASSWORD), 303)
-        return browser
+        self.browser = live.cashier(self.service)
 
     def must(self, *words):
         status, said = self.service.run(*words)
@@ -222,7 +215,7 @@ def stepped(site):
         for call in ("pwrite64", "fdatasync", "sendto", "unlink"):
             for when in range(1, 40):
                 what = [] if words[1] == "make" else [site.account(site.sold("pass 100")[1])]
-                if not injected(site.service, call, when, *words, *what):
+                if not live.injected(site.service, call, when, "signal=SIGKILL", *words, *what):
                     break
                 kills += 1
                 if not site.front.logs_in(other):
@@ -239,13 +232,6 @@ def stepped(site):
     judge(site, f"after {kills} kills of commands")
 
 
-def injected(service, call, when, *words):
-    """Whether a command was killed before its so-manieth call."""
-    traced = ["strace", "-f", "-qq", "-o", os.devnull, "-e", f"trace={call}",
-              "-e", f"inject={call}:signal=SIGKILL:when={when}", *service.words(*words)]
-    return subprocess.run(traced, env=service.env, capture_output=True).returncode != 0
-
-
 def chaos(site, kills):
     """Cashiers sell while the service is killed: a form is sent until it is answered."""
     pick, end, said = random.Random(int(os.environ.get("RADACCTD_SEED", "81"))), [], []
@@ -258,7 +244,8 @@ def chaos(site, kills):
                     time.sleep(0.05)
                 said.append(code)
 
-    threads = [threading.Thread(target=cashier, args=(site.logged_in(),)) for _ in range(3)]
+    browsers = [live.cashier(site.service) for _ in range(3)]
+    threads = [threading.Thread(target=cashier, args=(it,)) for it in browsers]
     for it in threads:
         it.start()
     for _ in range(kills):

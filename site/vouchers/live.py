@@ -14,9 +14,9 @@ RADACCTD_SEED chooses the moments. It needs Debian's gunicorn, python3-bottle, p
 python3-segno and strace. It ends with 0 if all is as it should be, else with 1.
 """
 
-import collections
 import contextlib
 import csv
+import functools
 import os
 import random
 import re
@@ -24,8 +24,6 @@ import shutil
 import sqlite3
 import subprocess
 import sys
-import tempfile
-import threading
 import time
 
 sys.dont_write_bytecode = True
@@ -33,11 +31,10 @@ ROOT = os.path.dirname(os.path.dirname(os.path.dirname(os.path.realpath(__file__
 sys.path[:0] = [os.path.join(ROOT, it) for it in ("interop", "etc")]
 
 import radacctl  # it finds the kit
-import served
-from radacctd_site.core import codes, names, store
-from radacctd_site.core.live import Service
-from served import CASHIER, check
+from radacctd_site.core import codes, live, names, store
+from served import check
 
+MAKE, WITHDRAW = ("voucher", "make", "3", "1.00"), ("voucher", "withdraw", "--yes")
 GUESTS = ("alice", "bob", "müller", "room 12")
 # What redeems one code and prints what the book said: a process of its own, which can be killed.
 ONE = """
@@ -71,7 +68,7 @@ def credited(server):
     """The account and the sum of each code that the book has. Who serves it has it alone."""
     server.kill()
     rows = [it for it in csv.reader(server.export("topups")[1:]) if it[0].startswith("W-")]
-    server.start(1 << 62)
+    server.start()
     return {row[0][2:]: (names.octets_of(row[1]).decode("utf-8", "replace"), int(row[2]))
             for row in rows}
 
@@ -95,7 +92,7 @@ def by_page(server, service):
           [200, 200, 409, 404, 422, 422])
     server.kill()
     check("the book is away", redeem(service, "bob", found[1]), 503)
-    server.start(1 << 62)
+    server.start()
     check("the minute sends it again", service.run("minute"), (0, "answered now: 1\n"))
     check("and then nothing", service.run("minute"), (0, ""))
     states = {it["code"]: (it["state"], it["account"]) for it in listed(service, name)}
@@ -107,15 +104,13 @@ def by_page(server, service):
     check("who guesses is stopped", first, [404] * 5 + [429])
 
 
-class Chaos:
-    """Guests who ask for the same codes at once, while the service and the book are killed."""
+class Chaos(live.Chaos):
+    """Guests who ask for the same codes at once."""
 
-    def __init__(self, server, service, kills, seed):
-        self.server, self.service, self.kills = server, service, kills
-        self.pick, self.end, self.lock = random.Random(seed), False, threading.Lock()
-        self.name, self.codes = sheet(service, 3 * kills)
-        self.answers, self.counts = set(), collections.Counter()
-        self.withdrawn = set()
+    def __init__(self, server, service):
+        super().__init__(server, service)
+        self.name, self.codes = sheet(service, 3 * self.kills)
+        self.answers, self.withdrawn = set(), set()
 
     def guest(self, seed):
         pick = random.Random(seed)
@@ -127,15 +122,6 @@ class Chaos:
                 if status == 200:
                     self.answers.add((code, account))
             time.sleep(0 if status else 0.05)
-
-    def disturb(self):
-        """Kills the service, or a book, and starts it again."""
-        time.sleep(self.pick.uniform(0, 0.4))
-        it = self.server if self.pick.random() < 0.2 else self.service
-        it.kill()
-        time.sleep(self.pick.uniform(0, 0.1))
-        it.start(*([1 << 62] if it is self.server else []))
-        self.counts["kills"] += 1
 
     def withdraw(self):
         """Withdraws some codes while guests ask for them; the command is killed at times."""
@@ -151,24 +137,9 @@ class Chaos:
             if self.end:
                 return
 
-    def run(self):
-        threads = [threading.Thread(target=self.guest, args=(it,)) for it in range(4)]
-        threads.append(threading.Thread(target=self.withdraw))
-        for it in threads:
-            it.start()
-        failures = served.failures
-        with open(os.devnull, "w", encoding="ascii") as quiet, contextlib.redirect_stdout(quiet):
-            for _ in range(self.kills):
-                self.disturb()
-        self.end = True
-        for it in threads:
-            it.join()
-        check("each start of the book was well", served.failures, failures)
-
     def judge(self):
-        """What the book has at last."""
-        while self.service.run("minute")[1]:
-            pass
+        """Redeems and kills; what the book has at last."""
+        self.run(self.withdraw, *[functools.partial(self.guest, it) for it in range(4)])
         found = credited(self.server)
         lost = [it for it in self.answers if found.get(it[0]) != (it[1], 500)]
         check(f"{len(self.answers)} answers: each code is its account's", lost, [])
@@ -190,9 +161,9 @@ def stepped(service, server):
         for call in ("fdatasync", "pwrite64", "sendto"):
             for when in range(1, 30):
                 name, found = quiet_sheet(service)
-                status = injected(service, call, when, what, "voucher", "withdraw", "--yes", name)
+                status = live.injected(service, call, when, what, *WITHDRAW, name)
                 kills += status != 0
-                service.run("voucher", "withdraw", "--yes", name)
+                service.run(*WITHDRAW, name)
                 if {it["state"] for it in listed(service, name)} != {"withdrawn"}:
                     wrong.append((what, call, when))
                 if status == 0:
@@ -206,7 +177,7 @@ def stepped(service, server):
     for call in ("fdatasync", "pwrite64"):
         for when in range(1, 12):
             before = len(sheets_of(service))
-            status = injected(service, call, when, "signal=SIGKILL", "voucher", "make", "3", "1.00")
+            status = live.injected(service, call, when, "signal=SIGKILL", *MAKE)
             kills += status != 0
             if any(counts != 3 for counts in sheets_of(service)[before:]):
                 wrong.append((call, when))
@@ -226,37 +197,20 @@ def sheets_of(service):
         "voucher", "list")[1])]
 
 
-def injected(service, call, when, what, *words):
-    """The status of a command over whose so-manieth call something comes."""
-    traced = ["strace", "-f", "-qq", "-o", os.devnull, "-e", f"trace={call}",
-              "-e", f"inject={call}:{what}:when={when}", *service.words(*words)]
-    return subprocess.run(traced, env=service.env, capture_output=True).returncode
-
-
 def full_disk(server, folder):
     """site.db on a disk that is full: nothing is redeemed, and nothing sent."""
-    place = os.path.join(folder, "full")
-    os.mkdir(place)
-    if subprocess.run(["mount", "-t", "tmpfs", "-o", "size=1m", "tmpfs", place]).returncode:
-        return print("left out: a full disk, since nothing can be mounted here")
-    service = Service(place, server.desk, CASHIER)
-    try:
+    with live.small_disk(server, folder) as service:
+        if service is None:
+            return
         _, found = sheet(service, 3)
-        service.start()
         before = redeem(service, "alice", found[0])
-        with contextlib.suppress(OSError), open(f"{place}/fill", "wb", buffering=0) as file:
-            while file.write(bytes(4096)):
-                pass
-        text = service.browser()
+        full, text = live.fill(service), service.browser()
         status = text.post("/redeem/", account="bob", code=found[1], sure="yes")
         check("on a full disk nothing is redeemed", (before, status), (200, 503))
         check("and the page says so", "nothing was sent" in text.text, True)
         check("the book has nothing of it", found[1] in credited(server), False)
-        os.remove(f"{place}/fill")
+        os.remove(full)
         check("with space again it is", redeem(service, "bob", found[1]), 200)
-    finally:
-        service.kill()
-        subprocess.run(["umount", "-l", place], check=True)
 
 
 def older(server, service):
@@ -279,30 +233,13 @@ def older(server, service):
     check("and alice has hers", redeem(service, "alice", found[0]), 200)
 
 
-def main():
-    kills = int(sys.argv[1]) if sys.argv[1:] else 200
-    seed = int(os.environ.get("RADACCTD_SEED", "82"))
-    with tempfile.TemporaryDirectory() as folder:
-        os.mkdir(f"{folder}/book")
-        server = served.Server(f"{folder}/book")
-        server.init()
-        server.start(1 << 62)
-        service = Service(f"{folder}/site", server.desk, CASHIER)
-        try:
-            service.start()
-            by_page(server, service)
-            chaos = Chaos(server, service, kills, seed)
-            chaos.run()
-            chaos.judge()
-            stepped(service, server)
-            older(server, service)
-            full_disk(server, folder)
-        finally:
-            service.kill()
-            server.kill()
-    print("failed:", served.failures)
-    return 1 if served.failures else 0
+def test(server, service, folder):
+    by_page(server, service)
+    Chaos(server, service).judge()
+    stepped(service, server)
+    older(server, service)
+    full_disk(server, folder)
 
 
 if __name__ == "__main__":
-    sys.exit(main())
+    sys.exit(live.over_program(test))
