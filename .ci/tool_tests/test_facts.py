@@ -73,8 +73,7 @@ class Money(unittest.TestCase):
         euro = money.Money(2, "EUR")
         rows = {0: "0.00 EUR", 5: "0.05 EUR", -5: "-0.05 EUR", 123456: "1234.56 EUR"}
         self.assertEqual({it: euro.shown(it) for it in rows}, rows)
-        self.assertEqual(euro.plain(-123456789, ","), "-1,234,567.89")
-        self.assertEqual(money.Money().plain(1234567, ","), "1,234,567")
+        self.assertEqual(money.Money().plain(1234567), "1234567")
 
     def test_settings_of_a_wrong_kind_are_refused(self):
         with tempfile.TemporaryDirectory() as folder:
@@ -119,18 +118,16 @@ class Desk(unittest.TestCase):
             caller.recv(4096)
             caller.sendall(said)
 
-    def key(self, text, mode=0o600, most=1):
+    def key(self, text, mode=0o600):
         with tempfile.TemporaryDirectory() as folder:
             path = os.path.join(folder, "key")
             files.make(path, text, mode)
-            return desk.keys_in(path, most)
+            return desk.key_in(path)
 
     def test_keys(self):
         key = "cash-key-00000001"
-        self.assertEqual(self.key(f" {key} \r\n\n".encode()), [key])
-        self.assertEqual(self.key(f"\n{key}\n".encode(), most=2), [key])
-        self.assertRaisesRegex(desk.WrongKey, "^line 2 ", self.key, f"\n{key}\n".encode())
-        self.assertEqual(self.key(f"{key}\n{key[:-1]}2\n".encode(), most=2)[1], f"{key[:-1]}2")
+        self.assertEqual(self.key(f" {key} \r\n\n".encode()), key)
+        self.assertRaisesRegex(desk.WrongKey, "one line", self.key, f"\n{key}\n".encode())
         for mode in (0o640, 0o604):
             self.assertRaises(desk.WrongKey, self.key, key.encode(), mode)
 

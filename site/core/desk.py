@@ -1,6 +1,5 @@
 """The desk: the keys that it takes, how a voucher is sent to it, and what its answers mean."""
 
-import argparse
 import http.client
 import json
 import os
@@ -12,12 +11,7 @@ from radacctd_site.core import Failed, corrections, told
 
 # The number of a voucher, and a key.
 NUMBER, TOKEN = re.compile("[A-Z0-9-]{1,32}"), re.compile("[A-Za-z0-9-]{16,64}")
-TOKEN_RULE = "16 to 64 of A-Z a-z 0-9 and -"
-# An account as the desk takes it: plain characters, and % with two digits for any other octet.
-ACCOUNT = re.compile("(?:[ -$&-~]|%[0-9A-F]{2}){1,253}")
 CASHIER_KEY = "/etc/radacctd-cashier.key"
-# The desk of a machine.
-HERE = ("127.0.0.1", 8066)
 # The longest list of what an account has, in octets.
 LONGEST_LIST = 1 << 26
 # What became of a voucher.
@@ -34,14 +28,6 @@ ANSWERS = {
 
 class WrongKey(Failed):
     """Why a file has no key that may be used. It has no octet of the file."""
-
-
-def place(text):
-    """An address and a port, as an argument has them."""
-    host, mark, port = text.rpartition(":")
-    if not mark or not re.fullmatch("[0-9]{1,5}", port):
-        raise argparse.ArgumentTypeError(f"{text} is no A.B.C.D:PORT")
-    return host, int(port)
 
 
 def meaning(status, said):
@@ -69,17 +55,14 @@ def credit(where, key, account, total, number, **how):
     return meaning(status, object_of(said)), status, said
 
 
-def ask(where, method, path, key, body=None, patience=30, connect=None, most=1 << 20,
-        before=lambda: None):
+def ask(where, method, path, key, body=None, patience=30, connect=None, most=1 << 20):
     """The status and the body that the desk at an address and a port gave. It has `connect` seconds
-    for a connection; `before` runs once it has one, and got nothing yet. OSError says why there is
-    no answer, and has no word of what came.
+    for a connection. OSError says why there is no answer, and has no word of what came.
     """
     caller = http.client.HTTPConnection(*where, timeout=connect or patience)
     try:
         caller.connect()
         caller.sock.settimeout(patience)
-        before()
         caller.request(method, path, body, {"Desk-Key": key, "Connection": "close"})
         response = caller.getresponse()
         said = response.read(most)
@@ -104,19 +87,12 @@ def secret_in(path, may_read=lambda status: False):
     return octets
 
 
-def keys_in(path, most, may_read=lambda status: False):
-    """The keys of a file, one on a line."""
-    lines = secret_in(path, may_read).decode("ascii", "replace").split("\n")
-    named = [(at, line.strip()) for at, line in enumerate(lines, 1) if line.strip()]
-    if not named:
-        raise WrongKey(f"{path} has no key: {TOKEN_RULE}")
-    for count, (at, line) in enumerate(named, 1):
-        # One key is on the first line.
-        if count > most or most == 1 < at:
-            raise WrongKey(f"line {at} of {path} is one too many: it has one key on one line")
-        if not TOKEN.fullmatch(line):
-            raise WrongKey(f"line {at} of {path} is no key: {TOKEN_RULE}")
-    return [line for _, line in named]
+def key_in(path, may_read=lambda status: False):
+    """The key of a file, which stands alone on its first line."""
+    line, _, rest = secret_in(path, may_read).decode("ascii", "replace").partition("\n")
+    if not TOKEN.fullmatch(line.strip()) or rest.strip():
+        raise WrongKey(f"{path} is to have one key on one line: 16 to 64 of A-Z a-z 0-9 and -")
+    return line.strip()
 
 
 class Desk:

@@ -38,12 +38,12 @@ def settings_in(path=SETTINGS):
     return found
 
 
-def of_site(path=None, units=""):
-    """The site's money. Without settings sums are in units of the book, which may have a name."""
+def of_site(path):
+    """The site's money. Without settings sums are in units of the book."""
     try:
-        found = settings_in(path) if path else settings_in()
+        found = settings_in(path)
     except FileNotFoundError:
-        return Money(currency=units)
+        return Money()
     except OSError as why:
         raise Wrong(f"the site's money: {why}") from None
     return Money(found["decimals"], found["currency"])
@@ -64,10 +64,10 @@ class Money:
         units = int(found[1] + part.ljust(self.decimals, "0"))
         return units if 1 <= units <= LARGEST_SUM else None
 
-    def plain(self, units, comma=""):
-        """A sum without the money's name; a comma parts the thousands."""
+    def plain(self, units):
+        """A sum without the money's name."""
         whole, part = divmod(abs(units), 10**self.decimals)
-        text = f"{whole:{comma}}" + (f".{part:0{self.decimals}d}" if self.decimals else "")
+        text = f"{whole}" + (f".{part:0{self.decimals}d}" if self.decimals else "")
         return "-" * (units < 0) + text
 
     def shown(self, units):

@@ -18,10 +18,11 @@ KEY, SECRET = (os.path.join(os.environ.get("CREDENTIALS_DIRECTORY", "/etc"), it)
 
 def book():
     """The book's desk, with the key, and the secret if there is one."""
-    where, is_handed = os.environ.get("RADACCTD_DESK"), "CREDENTIALS_DIRECTORY" in os.environ
-    [key] = desk.keys_in(KEY, 1, lambda _: is_handed)
+    host, _, port = os.environ.get("RADACCTD_DESK", "127.0.0.1:8066").rpartition(":")
+    is_handed = "CREDENTIALS_DIRECTORY" in os.environ
+    key = desk.key_in(KEY, lambda _: is_handed)
     secret = desk.secret_in(SECRET, lambda _: is_handed) if os.path.exists(SECRET) else b""
-    return desk.Desk(desk.place(where) if where else desk.HERE, key, secret.rstrip(b"\r\n"))
+    return desk.Desk((host, int(port)), key, secret.rstrip(b"\r\n"))
 
 
 def settings():

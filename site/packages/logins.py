@@ -30,8 +30,7 @@ FROM login LEFT JOIN act ON act.number = login.number AND act.kind = '{KIND}'
 
 
 def key():
-    [found] = desk.keys_in(KEY, 1, lambda _: "CREDENTIALS_DIRECTORY" in os.environ)
-    return found
+    return desk.key_in(KEY, lambda _: "CREDENTIALS_DIRECTORY" in os.environ)
 
 
 def drawn(digest_key, package, code, who, name="", sheet=""):
