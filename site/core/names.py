@@ -13,7 +13,7 @@ import urllib.parse
 
 from radacctd_site.core import Failed, told
 
-# What is sold to: FreeRADIUS' tables find it, and a stamp has space for it (docs/FILES.md).
+# What is sold to: FreeRADIUS' tables find it, and a stamp has space for it (docs/reference/files.md).
 LONGEST = 60
 FIRST, OTHER = re.compile(r"\w"), re.compile(r"[^\w .@-]")
 # What the desk takes as itself; any other octet is % and two digits there.
