@@ -37,7 +37,7 @@ def is_built():
 
 
 def must_be_built():
-    """Ends with the status 2 if bin/install, which takes no other program, would have to build."""
+    """Ends with the status 2 if the program is not built of these sources."""
     if not is_built():
         print(NOT_BUILT, file=sys.stderr)
         sys.exit(2)

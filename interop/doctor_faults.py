@@ -10,7 +10,7 @@ SETTINGS, CERTIFICATE = f"{FRONT}/settings.conf", f"{FRONT}/certs/server.pem"
 CONFIG, COPIES = "/etc/radacctd.toml", "/var/backups/radacctd"
 # A test that goes on over midnight has a copy of both days.
 LAST = f"$(ls -d {COPIES}/site-* | tail -1)"
-PROGRAM = "/usr/local/libexec/radacctd/radacctd"
+PROGRAM = "/usr/lib/radacctd/radacctd"
 # A report with a wrong secret, straight to radacctd.
 WRONG = "echo 'User-Name=a,Acct-Status-Type=Start,Acct-Session-Id=1"
 SENT = "radclient -r 1 -t 1 127.0.0.1:11813 acct wrong; journalctl --sync"
@@ -65,10 +65,10 @@ BOOK, SERVER = "/var/lib/radacctd/book", "$(systemctl show -P MainPID radacctd)"
 BREAKS = {
     # The server writes each ten seconds what it saw, and its line once it has seen it twice.
     "book-away": (f"mv {BOOK} {BOOK}.kept; sleep 12", f"mv {BOOK}.kept {BOOK}; sleep 12"),
-    "unit-down": ("systemctl stop radacctd-copy.timer", "systemctl start radacctd-copy.timer"),
+    "unit-down": ("systemctl stop radacctd-night.timer", "systemctl start radacctd-night.timer"),
     "unit-failed": ("systemd-run --unit=radacctd-broken false; sleep 1",
                     "systemctl reset-failed radacctd-broken"),
-    "unit-off": ("systemctl disable radacctd-copy.timer", "systemctl enable radacctd-copy.timer"),
+    "unit-off": ("systemctl disable radacctd-night.timer", "systemctl enable radacctd-night.timer"),
     "config-wrong": appended("\\nx = 1\\n"),
     "plan-waits": appended('\\n[[plan]]\\nclass = "gold"\\nblock = 1\\nunit = 1\\n'),
     "plan-lost": edited("s/^unit = 1$/unit = 2/", CONFIG),

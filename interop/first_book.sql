@@ -1,4 +1,4 @@
--- The tables and plans of a book of schema number 1, kept by etc/radacctd.toml's plans.
+-- The tables and plans of a book of schema number 1, kept by debian/radacctd.toml's plans.
 CREATE TABLE meta (name TEXT NOT NULL PRIMARY KEY, value INTEGER NOT NULL) STRICT;
 CREATE TABLE price_plan (class BLOB NOT NULL PRIMARY KEY, block INTEGER NOT NULL,
   unit INTEGER NOT NULL) STRICT;

@@ -25,7 +25,7 @@ FILES += ["/etc/radacctd-web/*.json", "/etc/nginx/conf.d/*"]
 FILES += [f"{FRONT}/*", f"{FRONT}/certs/*", f"{FRONT}/secrets/*", "/etc/ssl/radacctd.pem"]
 FILES += ["/etc/ssl/private/radacctd.key"]
 UNITS = ["radacctd", "radacctd-front", "radacctd-cut", "radacctd-site.socket", "nginx"]
-UNITS += ["radacctd-copy.timer", "radacctd-minute.timer"]
+UNITS += ["radacctd-night.timer", "radacctd-minute.timer"]
 
 
 def titled(box, title):
@@ -190,10 +190,8 @@ class Again(Asking):
             print("".join(f"         {line}\n" for line in told.splitlines()[-4:]), end="")
 
     def install(self, staged):
-        """What the package does, from the repository."""
+        """The package is no file of the page's: it is installed here."""
         self.box.copy(staged)
-        self.box.must("systemd-sysusers radacctd.conf; systemd-tmpfiles --create radacctd.conf")
-        self.box.must("systemctl daemon-reload")
 
     def compare(self, before):
         box = self.box

@@ -52,12 +52,14 @@ def run(words, **more):
 
 
 def staged(folder):
-    """Puts below a folder of this machine what bin/install puts in place."""
-    command_line.must_be_built()
+    """Makes the package in a folder of this machine: radacctd.deb."""
+    if "RADACCTD" not in os.environ:
+        command_line.must_be_built()
     root = os.path.dirname(os.path.dirname(os.path.abspath(__file__)))
-    status, text = run([f"{root}/bin/install"], env={**os.environ, "DESTDIR": folder})
+    status, text = run([f"{root}/bin/package", folder])
     if status:
-        raise SystemExit(f"bin/install ended with {status}: {text}")
+        raise SystemExit(f"bin/package ended with {status}: {text}")
+    os.rename(text.split("\n")[0], f"{folder}/radacctd.deb")
 
 
 def groups(name):
@@ -266,7 +268,6 @@ class Machine:
         os.rename(here + "~", here)
 
     def copy(self, folder):
-        """Copies what is in a folder of this machine over the root of the machine."""
-        entries = [os.path.join(folder, name) for name in os.listdir(folder)]
-        words = ["cp", "-a", "--remove-destination", *entries, self.root + "/"]
-        subprocess.run(words, check=True)
+        """Installs the package of a folder of this machine."""
+        shutil.copy(f"{folder}/radacctd.deb", f"{self.root}/root/")
+        self.must("dpkg -i /root/radacctd.deb")

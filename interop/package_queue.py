@@ -5,7 +5,6 @@ and a removal.
 import json
 import os
 import re
-import tempfile
 
 import start_site
 from served import check
@@ -53,20 +52,17 @@ class Front:
         return sum(map(int, found))
 
 
-def made(box):
-    """The site, by the package and its set-up."""
-    check("the older package installs", box.run("dpkg -i /root/old.deb")[0], 0)
-    with tempfile.TemporaryDirectory() as folder:
-        # The package has put all of it in place: a folder of Debian's is all that is copied.
-        os.mkdir(os.path.join(folder, "opt"))
-        start_site.prepare(box, folder)
+def made(box, folder):
+    """The site, by the older package and its set-up."""
+    os.rename(f"{folder}/old.deb", f"{folder}/radacctd.deb")
+    start_site.prepare(box, folder)
     start_site.set_up(box)
     box.must(SALE)
     return Front(box)
 
 
-def upgraded(box):
-    front = made(box)
+def upgraded(box, folder):
+    front = made(box, folder)
     check("sessions are open", front.reported("Interim-Update", 2), COUNT)
     check("and charged", front.charged(2), True)
     box.must("kill -STOP $(systemctl show -P MainPID radacctd)")

@@ -8,7 +8,7 @@ import tomllib
 
 from served import CLIENT_AND_KEYS, PLANS, PROGRAM, ROOT, Server, check
 
-SAMPLE = os.path.join(ROOT, "etc", "radacctd.toml")
+SAMPLE = os.path.join(ROOT, "debian", "radacctd.toml")
 PUBLIC = "is the sample's, which is public"
 
 

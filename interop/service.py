@@ -1,12 +1,14 @@
-"""The service in a container: what the tests of unit and package ask of it."""
+"""The service in a container: what the tests of units and package ask of it, and INSTALL's page."""
 
 import os
+import re
 import time
 
 import machine
-from served import CASHIER, GUEST, SECRET, report
+from served import CASHIER, GUEST, ROOT, SECRET, check, report
 
 TOOLS = {**machine.TOOLS, "radclient": "freeradius-utils", "curl": "curl"}
+PAGE = os.path.join(ROOT, "docs", "INSTALL.md")
 CONFIG, BOOK = "/etc/radacctd.toml", "/var/lib/radacctd/book"
 DEFAULTS = "/etc/default/radacctd"
 BALANCES = "/var/lib/radacctd-balances/balances.csv"
@@ -67,11 +69,12 @@ class Site:
         words += ["-H", "Content-Type: application/json"]
         return self.box.beside([*words, f"http://127.0.0.1:{self.desk}/topups"])[1]
 
-    def reported(self, session, octets, address="127.0.0.1"):
+    def reported(self, session, octets, address="127.0.0.1", tries=2):
         """Whether a report was answered."""
         attributes = report("Interim-Update", session, octets)
         attributes.append("Packet-Src-IP-Address = 127.0.0.1")
-        words = ["radclient", "-r", "2", "-t", "3", f"{address}:{self.radius}", "acct", SECRET]
+        words = ["radclient", "-r", str(tries), "-t", str(2 * tries - 1)]
+        words += [f"{address}:{self.radius}", "acct", SECRET]
         status, text = self.box.beside(words, input="\n".join(attributes) + "\n")
         return status == 0 and "Received Accounting-Response" in text
 
@@ -90,3 +93,33 @@ class Site:
 def put_config(site, text):
     site.box.write(CONFIG, text, 0o640)
     site.box.must(f"chgrp radacctd {CONFIG}")
+
+
+def section(title):
+    """A section of docs/INSTALL.md."""
+    with open(PAGE, encoding="utf-8") as file:
+        text = file.read()
+    text = text[text.index(f"\n## {title}\n") :]
+    return text[: text.index("\n## ", 5)] if "\n## " in text[5:] else text
+
+
+def commands(title):
+    """The commands of a section: those of its steps, those between them, and those in a line."""
+    found = re.findall(r"(?m)^(?: {4,7}(?! )(\S.*)|\d\. `(.*)`)$", section(title))
+    return [one or other for one, other in found]
+
+
+def typed(box, command):
+    status, said = box.run(f"cd /root && {command}")
+    check(f"{command[:70]}", (status, said if status else ""), (0, ""))
+
+
+def first_start(site, config, before=None):
+    """"The first start" of the page, up to a command. The configuration takes the sample's place."""
+    for command in commands("The first start"):
+        if command == before:
+            return
+        if not command.startswith("journalctl"):
+            typed(site.box, command)
+        if command.startswith("install -m 640"):
+            put_config(site, config)

@@ -7,8 +7,8 @@ import sys
 import tempfile
 
 import books
-import command_line
-from served import PLANS, ROOT, check
+import machine
+from served import PLANS
 
 USER = "radacctd"
 INSIDE = "RADACCTD_TOOLS_TEST"
@@ -53,14 +53,14 @@ class Site:
 
 
 def install(folder):
-    """The installation: bin/install, and the tools if it leaves them out."""
-    command_line.must_be_built()
-    prefix = os.path.join(folder, "installed")
-    status, _, errors = run([os.path.join(ROOT, "bin", "install"), prefix], umask=0o077)
-    check("bin/install", (status, errors), (0, ""))
-    closed = run(["find", prefix, "!", "-type", "l", "!", "-perm", "-444"])[1]
-    closed += run(["find", prefix, "-type", "d", "!", "-perm", "755"])[1]
-    check("whose files and folders are for all to read, whatever the umask", closed, "")
+    """What the package has, below a folder."""
+    machine.staged(folder)
+    subprocess.run(["dpkg-deb", "-x", f"{folder}/radacctd.deb", f"{folder}/installed"], check=True)
+    prefix = os.path.join(folder, "installed", "usr")
+    with open(os.path.join(prefix, "sbin", "radacctd"), "r+", encoding="utf-8") as file:
+        text = file.read().replace("/usr/lib/", f"{prefix}/lib/")
+        file.seek(0)
+        file.write(text)
     return prefix
 
 

@@ -36,7 +36,7 @@ def rows(checker):
             first = ""
 
 
-SAMPLE = "etc/radacctd.default"
+SAMPLE = "debian/radacctd.default"
 
 
 def settings(_checker):

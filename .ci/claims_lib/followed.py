@@ -21,7 +21,7 @@ PLAIN = re.compile(r"change-me\b.*|\.\.\.|[A-Z]+")
 
 def check_secrets(checker):
     """What a page shows as a secret is plainly none: the public sample's, or change-me."""
-    sample = set(re.findall(r'^(?:secret|token) = "([^"]+)"', text_of("etc/radacctd.toml"), re.M))
+    sample = set(re.findall(r'^(?:secret|token) = "([^"]+)"', text_of("debian/radacctd.toml"), re.M))
     for checker.page in map(page_of, OPERATORS):
         for block in checker.pages.get(checker.page, ()):
             for found in SHOWN.finditer(block.text):

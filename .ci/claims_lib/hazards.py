@@ -79,7 +79,6 @@ KEPT = {
         "Let no access server send the Class `debit`",
         "A restart without step 3 fails",
     ),
-    "docs/WATCHING.md": ("each report that was set aside is money that nobody was charged",),
     "docs/proofs/AUDIT.md": (
         "It needs the copy's right delay, and a clock that was not behind before",
         "the octets of a sector that were not being written stay",
@@ -110,6 +109,7 @@ KEPT = {
         "the server blocks",
     ),
     "docs/reference/files.md": ("Import from a file, not from a pipe that may break",),
+    "site/monitor/README.md": ("each report that was set aside is money that nobody was charged",),
 }
 
 

@@ -4,99 +4,11 @@ import ast
 import re
 
 from claims_lib import contracts, openers
-from claims_lib.tree import text_of, without_comments
-
-FIGURES = "crates/acct_program_commands/src/figures.rt"
-DOCTOR = "etc/radacctl/commands/doctor.py"
-# What the program's own line on a metric leaves open. Its text goes with the next change of that
-# source.
-NOTES = {
-    "radacctd_faults_total": "slow callers that were closed are among them",
-    "radacctd_reports_total": "restarts of access servers, too",
-    "radacctd_datagrams_total": "dropped ones, too",
-    "radacctd_last_report_time_seconds": "0: none yet",
-    "radacctd_config_is_current": "0: the changed file has a fault, or plans that wait",
-    "radacctd_book_is_there": "0: [moved or removed](GONE.md#the-book-is-missing)",
-    "radacctd_balances_time_seconds": "0: not yet",
-    "radacctd_accounts": "absent without a file of balances",
-    "radacctd_overdrawn_accounts": "absent without a file of balances",
-    "radacctd_build_info": "always 1",
-    "radacctd_doctor_fault": "[the names](DOCTOR.md), each with its `gravity`",
-}
+from claims_lib.tree import text_of
 
 
 def row(*cells):
     return ("| " + " | ".join(cells) + " |").replace("|  |", "| |")
-
-
-def metric_rows(checker, found):
-    """The rows of metrics; a note on a metric that is not there is wrong."""
-    yield row("Name", "What it is", "Also")
-    yield "|---|---|---|"
-    for name, about in found:
-        yield row(f"`{name}`", about.rstrip("."), NOTES.get(name, ""))
-    every = dict(metrics_of_server()) | dict(metrics_of_doctor())
-    for name in sorted(set(NOTES) - set(every)):
-        checker.find(1, f"no source has the metric {name}: see claims_lib/made_tables.py")
-
-
-def metrics_of_server():
-    """The metrics of the program, each with its line of help, in the order in which it writes."""
-    text = without_comments(text_of(FIGURES))
-    named = r'let name = "(radacctd_\w+)";\s*let about = "([^"]+)"'
-    told = r'let about = "([^"]+)";\s*write_\w+\(output, "(radacctd_\w+)"'
-    made = r"# HELP (radacctd_\w+) ([^\\\n]+)"
-    for found in re.finditer(f"{named}|{told}|{made}", text):
-        one, two, three, four, five, six = found.groups()
-        yield one or four or five, two or three or six
-
-
-def metrics_of_doctor():
-    """The metrics that the doctor writes."""
-    block = re.search(r"^COUNTS = \{\n(.*?)^\}", text_of(DOCTOR), re.M | re.S)[1]
-    yield from re.findall(r'"(radacctd_\w+)": "([^"]+)"', block)
-
-
-def metrics(checker, side):
-    """The metrics of the server, or of the doctor."""
-    makers = {"server": metrics_of_server, "doctor": metrics_of_doctor}
-    return metric_rows(checker, list(makers[side]()))
-
-
-RULES = "etc/monitoring/radacctd.rules.yml"
-
-
-def labelled(text):
-    """A text of an alert as the page has it: labels in capitals, N for the value, no machine."""
-    machine = r"\{\{ \$labels\.instance \}\}"
-    text = re.sub(rf" on {machine}| \({machine}\)", "", text)
-    text = re.sub(r"\{\{ \$labels\.(\w+) \}\}", lambda it: it[1].upper(), text)
-    return re.sub(r"\{\{ \$value[^}]*\}\}", "N", text).replace("|", "\\|")
-
-
-def alert_of(part):
-    """A rule: its name, its severity, what it means, what to do first, the page and its heading."""
-    name = re.search(r"alert: (\w+)", part)[1]
-    severity = re.search(r"severity: (\w+)", part)[1]
-    summary = re.search(r'summary: "?(.*?)"?\n', part)[1]
-    about = re.search(r"description: (?:>-\n)?(.*?)(?=\n\s*\n|\n  [a-z-]|\Z)", part, re.S)[1]
-    about = " ".join(about.split())
-    first = re.search(r"First: (.*?)(?:\. (?=[A-Z`{])|\.$|$)", about)
-    page = re.search(r'docs/([A-Z-]+)\.md, "([^"]+)"', about)
-    return name, severity, labelled(summary), labelled(first[1] if first else ""), page[1], page[2]
-
-
-def alerts(_checker):
-    """The alerts, the critical ones first."""
-    found = [alert_of(it) for it in re.split(r"\n(?= +- alert: )", text_of(RULES))[1:]]
-    yield row("Alert", "Severity", "It means", "What to do first", "Read")
-    yield "|---|---|---|---|---|"
-    for wanted in ("critical", "warning", "info"):
-        for name, severity, summary, first, page, heading in found:
-            if severity == wanted:
-                anchor = re.sub(r"[^\w\- ]", "", heading.lower()).replace(" ", "-")
-                link = f"[{page}]({page}.md#{anchor})"
-                yield row(f"`{name}`", severity, summary, first or "in the morning", link)
 
 
 def commands(_checker):
@@ -116,7 +28,7 @@ EXPLAINED = {
     "sell": "[VOUCHERS](VOUCHERS.md#credit-a-file-of-vouchers)",
     "voucher": "[DESK](DESK.md#printed-vouchers)",
     "person": "[DESK](DESK.md#put-a-proxy-in-front)",
-    "minute": "[DESK](DESK.md#what-sells)",
+    **dict.fromkeys(("minute", "night"), "[DESK](DESK.md#what-sells)"),
     **dict.fromkeys(("sales", "balance", "show", "who"), "[DESK](DESK.md#who-sold-what)"),
     **dict.fromkeys(("package", "code"), "[packages](../site/packages/README.md)"),
     "allow": "[VOUCHERS](VOUCHERS.md#allowances)",
@@ -242,8 +154,6 @@ def caller(_checker):
 
 MAKERS = {
     "caller": caller,
-    "alerts": alerts,
-    "metrics": metrics,
     "commands": commands,
     "radacctl": radacctl,
     "limits": limits,

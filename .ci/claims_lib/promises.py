@@ -19,7 +19,7 @@ from claims_lib.tree import ROOT, text_of
 
 OPERATORS = (
     "README ACCESS-SERVERS DESK DOCTOR FORWARD FRONTDESK GONE INSTALL"
-    " SITE SIZING START TROUBLE VOUCHERS WATCHING"
+    " SITE SIZING START TROUBLE VOUCHERS"
 ).split()
 # Pages that speak of contracts themselves, or of work on the repository.
 ENGINEERS = ("CHANGELOG.md", "docs/CODEC.md", *(f"docs/proofs/{it}.md" for it in (

@@ -24,7 +24,6 @@ MOST = {
     "docs/START.md": 865,
     "docs/TROUBLE.md": 1795,
     "docs/VOUCHERS.md": 920,
-    "docs/WATCHING.md": 395,
 }
 TOGETHER = {
     ("docs/proofs/", "docs/CODEC.md", "docs/reference/files.md"): 9000,

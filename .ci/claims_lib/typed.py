@@ -5,9 +5,8 @@ person, and why. docs/proofs/FIGURES.md has the table.
 # The scripts that run a page's commands, by its name.
 RUN = {
     "DESK": "interop/desk_page.py",
-    "INSTALL": "interop/install_page.py",
+    "INSTALL": "interop/package",
     "START": "interop/start",
-    "WATCHING": "interop/monitoring",
 }
 # Pages whose commands a person types, and why no script does.
 BY_HAND = {

@@ -28,7 +28,7 @@ def script(*path):
 def called(folder, name):
     """The program by another name: a link in a folder."""
     path = os.path.join(folder, name)
-    os.symlink(os.path.join(ROOT, "etc", "tools", "radacctl"), path)
+    os.symlink(os.path.join(ROOT, "bin", "radacctl"), path)
     return path
 
 

@@ -8,7 +8,7 @@ from tool_tests import ROOT
 
 
 class Program(unittest.TestCase):
-    TOOL = os.path.join(ROOT, "etc", "tools", "radacctl")
+    TOOL = os.path.join(ROOT, "bin", "radacctl")
 
     def run_it(self, *words, tool=None):
         return subprocess.run([tool or self.TOOL, *words], capture_output=True, text=True, input="")

@@ -76,14 +76,6 @@ class Counts(unittest.TestCase):
             self.assertEqual(stat.S_IMODE(os.stat(path).st_mode), 0o644)
             self.assertIn('{name="reports-aside",gravity="warning"} 1', files.text(path))
 
-    def test_the_alerts_know_each_gravity_and_name(self):
-        rules = files.text(os.path.join(ROOT, "etc/monitoring/radacctd.rules.yml"))
-        for gravity in (faults.CRITICAL, faults.WARNING):
-            self.assertIn(f'gravity="{gravity}"', rules)
-        names = re.search(r'gravity="critical",\s+name!~"(.*)"', rules)[1]
-        left = [it for it in faults.CRITICALS if re.fullmatch(names, it)]
-        self.assertEqual(left, ["book-away", "balances-old"])
-
 
 class Answers(unittest.TestCase):
     def wrong(self, **more):

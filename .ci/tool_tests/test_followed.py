@@ -12,8 +12,8 @@ from tool_tests import ROOT
 sys.path.insert(0, os.path.join(ROOT, "interop"))
 
 import desk_page
-import install_page
 import page_steps
+import service
 
 # A page, a part of it, all of its steps, and those with commands that a script types.
 STEPS = (
@@ -58,17 +58,13 @@ class Followed(unittest.TestCase):
             self.assertIn(line, proxy)
 
     def test_install(self):
-        steps = text_of("INSTALL").split("## The first start\n")[1].split("\nIf the start fails")[0]
-        steps = re.findall(r"^       (\S.*)$", steps, re.MULTILINE)
-        self.assertEqual(
-            first_words(steps), ["install", "radacctd", "install", "radacctd", "systemctl"]
-        )
-        upgrade = install_page.section("Upgrade").split("\n### ")[0]
-        self.assertEqual(len(re.findall(r"(?m)^ {7}(\S.*)$", upgrade)), 4)
-        book = install_page.section("Back up and restore")
-        self.assertEqual(len(re.findall(r"(?m)^\d\. `(.*)`$", book)), 4)
-        removal = install_page.section("Removal").split("From the repository:")[1]
-        self.assertEqual(len(re.findall(r"(?m)^\d\. `([^`]*)`", removal)), 3)
+        start = service.commands("The first start")
+        self.assertEqual(first_words(start)[:3], ["install", "radacctd", "radacctd"])
+        self.assertIn("systemctl enable --now radacctd", start)
+        for title, count in (("Addresses and ports", 2), ("Back up and restore", 4)):
+            self.assertEqual(len(service.commands(title)), count, title)
+        self.assertEqual(first_words(service.commands("Removal")), [
+            "systemctl", "rm", "systemctl", "rm", "userdel", "userdel", "groupdel"])
 
     def test_start(self):
         text = text_of("START")

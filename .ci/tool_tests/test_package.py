@@ -1,28 +1,21 @@
-"""The version that all of it says, and the units: each is shut in as the server is."""
+"""The version that all of it says, and the units: ten at most, and each service is shut in."""
 
 import glob
 import os
 import re
-import subprocess
-import tempfile
 import unittest
 
 from tool_tests import ROOT
 
-# What shuts a service in. radacctd.service has all of it, and each other one as much but for these.
+DROP_IN = "debian/radacctd-.service.d/shut-in.conf"
+# What each service has, and what only those have that are not root's and are no FreeRADIUS.
 SHUT_IN = """NoNewPrivileges SystemCallArchitectures SystemCallErrorNumber MemoryDenyWriteExecute
     LockPersonality RestrictNamespaces RestrictRealtime RestrictSUIDSGID KeyringMode ProtectSystem
-    ProtectHome PrivateTmp PrivateDevices DevicePolicy PrivateUsers ProtectProc ProcSubset RemoveIPC
-    ProtectClock ProtectControlGroups ProtectHostname ProtectKernelLogs ProtectKernelModules
-    ProtectKernelTunables UMask SystemCallFilter CapabilityBoundingSet""".split()
-ADD_UP = ("SystemCallFilter", "CapabilityBoundingSet")
-# Root's: it works in folders of other users, as these, and looks at their processes.
-ROOTS = {"PrivateUsers", "ProcSubset", "RemoveIPC", "CapabilityBoundingSet", "SystemCallFilter"}
-EXCEPTIONS = {
-    "radacctd-faults.service": ROOTS | {"ProtectProc"},
-    "radacctd-forward.service": ROOTS,
-    "radacctd-copy.service": ROOTS | {"ProtectHome", "ProtectProc"},
-}
+    ProtectHome PrivateTmp PrivateDevices DevicePolicy ProtectClock ProtectControlGroups
+    ProtectHostname ProtectKernelLogs ProtectKernelModules ProtectKernelTunables UMask
+    CapabilityBoundingSet RestrictAddressFamilies SystemCallFilter""".split()
+NO_RIGHTS = "PrivateUsers ProtectProc ProcSubset".split()
+ROOTS = {"radacctd-copy.service", "radacctd-front.service", "radacctd-night.service"}
 
 
 def text(*names):
@@ -36,7 +29,7 @@ class Version(unittest.TestCase):
     def test_all_say_the_same(self):
         says = re.search(r'radacctd_build_info\{version=\\"([\d.]+)\\"', text(
             "crates", "acct_program_commands", "src", "figures.rt"))[1]
-        packaged = re.match(r"radacctd \(([\d.]+)(\+\d+)?\) ", text("etc", "package", "changelog"))
+        packaged = re.match(r"radacctd \(([\d.]+)(\+\d+)?\) ", text("debian", "changelog"))
         heading = re.search(r"(?m)^## (Since )?([\d.]+)\b", text("CHANGELOG.md"))
         self.assertEqual((packaged[1], heading[2]), (says, says))
         # What is not released yet is a package that is newer than the release.
@@ -46,114 +39,52 @@ class Version(unittest.TestCase):
             self.assertEqual([it for it in found if it != says], [], path)
 
 
+def settings(name, path):
+    """What systemd takes of a service: its own lines, and those of all whose name has a hyphen."""
+    found = text(path).replace("\\\n", " ")
+    if "-" in name:
+        found += text(DROP_IN)
+    lines = [line.partition("=") for line in found.splitlines() if line[:1] not in ("#", "[", "")]
+    return [(it, " ".join(value.split())) for it, _, value in lines]
+
+
 class Units(unittest.TestCase):
-    def settings(self, path):
-        """What a unit says of each name: all lines that add to each other, else the last one."""
-        found, whole = {}, text(path)
-        for name in ("shut-in", "no-rights"):
-            whole = whole.replace(f"\n@{name}@\n", f"\n{text('etc', name)}")
-        self.assertNotRegex(whole, "(?m)^@")
-        for name, value in re.findall(r"(?m)^(\w+)=(.*)$", whole.replace("\\\n", " ")):
-            had = found.get(name, []) if name in ADD_UP else []
-            found[name] = [*had, " ".join(value.split())]
-        return found
+    PATHS = {os.path.basename(it): it for kind in ("service", "socket", "timer")
+             for place in ("debian", "site/*/units")
+             for it in glob.glob(os.path.join(ROOT, place, f"*.{kind}"))}
 
-    def test_each_is_shut_in_as_the_server_is(self):
-        paths = glob.glob(os.path.join(ROOT, "etc", "**", "*.service"), recursive=True)
-        wanted = self.settings(os.path.join(ROOT, "etc", "radacctd.service"))
-        self.assertEqual(set(SHUT_IN) - set(wanted), set())
-        for path in paths:
-            name, found = os.path.basename(path), self.settings(path)
-            differs = {it for it in SHUT_IN if found.get(it) != wanted[it]}
-            self.assertEqual(differs, EXCEPTIONS.get(name, set()), name)
+    def services(self):
+        return {name: settings(name, path) for name, path in self.PATHS.items()
+                if name.endswith(".service")}
 
-    def test_what_an_exception_leaves(self):
-        """Root's units have a list of rights and of calls, too, and may write in few places."""
-        for path in glob.glob(os.path.join(ROOT, "etc", "**", "*.service"), recursive=True):
-            name, found = os.path.basename(path), self.settings(path)
-            self.assertEqual(found["SystemCallFilter"][0], "@system-service", name)
-            self.assertEqual(len(found["CapabilityBoundingSet"]), 1, name)
-            self.assertNotIn("CAP_SYS_ADMIN", found["CapabilityBoundingSet"][0], name)
-            self.assertIn(found["ProtectSystem"], (["strict"], ["full"]), name)
+    def test_a_machine_has_ten_at_most(self):
+        self.assertLessEqual(len(self.PATHS), 10)
+        for name in self.PATHS:
+            if name.endswith((".timer", ".socket")):
+                self.assertIn(f"{name.rpartition('.')[0]}.service", self.PATHS)
 
+    def test_each_service_is_shut_in(self):
+        for name, found in self.services().items():
+            wanted = SHUT_IN + ([] if name in ROOTS else NO_RIGHTS)
+            if name == "radacctd-front.service":
+                # FreeRADIUS speaks to whatever its modules need.
+                wanted = [it for it in wanted if it != "RestrictAddressFamilies"]
+            self.assertEqual(set(wanted) - {it for it, _ in found}, set(), name)
 
-class Installation(unittest.TestCase):
-    """What bin/install has put has links into it, which a package does not mend by itself."""
+    def test_a_list_of_calls_begins_with_those_of_a_service(self):
+        """Else systemd takes it for a list of what is forbidden, and allows the rest."""
+        for name, found in self.services().items():
+            calls = [value for it, value in found if it == "SystemCallFilter"]
+            self.assertEqual(calls[0], "@system-service", name)
+            self.assertEqual(dict(found)["ProtectSystem"], "strict", name)
+            self.assertNotIn("CAP_SYS_ADMIN", dict(found)["CapabilityBoundingSet"], name)
 
-    def test_who_takes_a_package_in_its_place_mends_the_links(self):
-        with tempfile.TemporaryDirectory() as folder:
-            script = text("etc", "package", "preinst").replace("/usr/local", folder)
-            run = lambda: subprocess.run(["sh", "-c", script, "preinst", "install"], text=True,
-                                         capture_output=True)
-            self.assertEqual(run().returncode, 0)
-            os.mkdir(f"{folder}/sbin")
-            with open(f"{folder}/sbin/radacctd", "w", encoding="ascii"):
-                pass
-            done = run()
-        self.assertEqual(done.returncode, 1)
-        self.assertRegex(done.stderr, "Then install this package again.*systemctl enable --now "
-                                      "radacctd.*\n.*radacctl setup")
-
-
-class Purge(unittest.TestCase):
-    """It removes the folder of the balances, unless something else is in there."""
-
-    def test_nothing_is_left_that_the_server_writes_there(self):
-        with tempfile.TemporaryDirectory() as folder:
-            script = text("etc", "package", "postrm").replace("/var/lib", folder)
-            balances = f"{folder}/radacctd-balances"
-            os.mkdir(balances)
-            for name in ("balances.csv", "balances.csv.12new", "plans.csv"):
-                with open(f"{balances}/{name}", "w", encoding="ascii"):
-                    pass
-            script = script.replace("[ -d /run/systemd/system ]", "false")
-            subprocess.run(["sh", "-c", script, "postrm", "purge"], check=True)
-            self.assertEqual(os.listdir(folder), [])
-
-
-class CutOff(unittest.TestCase):
-    """A removal or an installation that was killed is given again by dpkg, and loses no unit."""
-
-    SYSTEMCTL = """#!/bin/sh
-if [ "$1 $2" = "--quiet disable" ]; then rm {0}/etc/systemd/system/x.wants/a.timer; fi
-if [ "$1 $2" = "--quiet enable" ]; then echo "$3" >>{0}/given; fi
-if [ -e {0}/kill ]; then kill -9 0; fi
-"""
-
-    def test_what_was_enabled_is_enabled_again(self):
-        with tempfile.TemporaryDirectory() as folder:
-            wants = os.path.join(folder, "etc/systemd/system/x.wants")
-            kill = os.path.join(folder, "kill")
-            os.makedirs(wants)
-            os.makedirs(os.path.join(folder, "bin"))
-            os.symlink("/x", os.path.join(wants, "a.timer"))
-            for name, said in (("systemctl", self.SYSTEMCTL.format(folder)), *(
-                    (it, "#!/bin/sh\n") for it in ("install", "systemd-sysusers",
-                                                   "systemd-tmpfiles"))):
-                path = os.path.join(folder, "bin", name)
-                with open(path, "w", encoding="ascii") as file:
-                    file.write(said)
-                os.chmod(path, 0o755)
-            for name, act, file in (("prerm", "remove", kill), ("prerm", "remove", ""),
-                                    ("postinst", "configure", kill), ("postinst", "configure", "")):
-                self.run_script(folder, name, act, file)
-            with open(os.path.join(folder, "given"), encoding="ascii") as file:
-                self.assertEqual(file.read(), 2 * "a.timer\n")
-            self.assertFalse(os.path.exists(os.path.join(folder, "radacctd-package")))
-
-    def run_script(self, folder, name, act, file):
-        script = text("etc", "package", name)
-        for old, new in (("@ALL_UNITS@", ""), ("@UNITS@", "a.timer"), ("/etc/", f"{folder}/etc/"),
-                         ("/var/lib", folder), ("/run/systemd", f"{folder}/none")):
-            script = script.replace(old, new)
-        if file:
-            open(file, "w", encoding="ascii").close()
-        path = f"{folder}/bin:{os.environ['PATH']}"
-        done = subprocess.run(["sh", "-c", script, name, act], env={"PATH": path},
-                              capture_output=True, start_new_session=True)
-        self.assertEqual(bool(done.returncode), bool(file), done.stderr)
-        if file:
-            os.remove(file)
+    def test_what_all_have_is_nothing_that_one_says_otherwise(self):
+        """The lines of all are read last, and would win."""
+        of_all = {it for it, _ in settings("", DROP_IN)}
+        for name, path in self.PATHS.items():
+            if name != "radacctd.service" and name.endswith(".service"):
+                self.assertEqual(of_all & {it for it, _ in settings("", path)}, set(), name)
 
 
 class Files(unittest.TestCase):

@@ -21,7 +21,7 @@ USER, RADIUS_USER, WEB_USER, READERS = "radacctd", "freerad", "www-data", "radac
 SITE_KEY = "/etc/radacctd-site.key"
 
 HERE = os.path.dirname(os.path.realpath(__file__))
-# This package is in libexec/radacctd, with the programs that it runs; or in etc of the repository.
+# This package is in lib/radacctd, with the programs that it runs; or in etc of the repository.
 INSTALLED = os.path.dirname(HERE)
 REPOSITORY = os.path.dirname(INSTALLED)
 IS_INSTALLED = os.path.basename(INSTALLED) == "radacctd"

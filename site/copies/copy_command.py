@@ -8,6 +8,7 @@ checked. `radacctl copy` alone makes one now, by radacctd-copy.service.
 
 import time
 
+from radacctd_site.core import Failed
 from radacctd_site.copies import kept, places, taking
 from radacctl.doctor import look
 from radacctl.setup import steps
@@ -20,7 +21,7 @@ def arguments(it):
     acts.add_parser("list", help="print each copy, the oldest first")
     check = acts.add_parser("check", help="see whether a copy is whole, and its book sound")
     check.add_argument("folder")
-    acts.add_parser("night", help="what the unit does: make a copy, and remove old ones")
+    acts.add_parser("make", help="what the unit does: make a copy, and remove old ones")
 
 
 def now():
@@ -29,13 +30,14 @@ def now():
     status = look.run("systemctl", "start", UNIT, seconds=86400)[0]
     print(steps.given(["journalctl", "-u", UNIT, "-t", "radacctl", "--since", begun, "-o", "cat"]),
           end="")
-    return 1 if status else 0
+    if status:
+        raise Failed(f"{UNIT} has failed")
 
 
 def main(words):
     if words.act is None:
-        return now()
-    if words.act == "night":
+        now()
+    elif words.act == "make":
         taking.night()
     elif words.act == "check":
         taken = kept.check(words.folder)["taken"]

@@ -7,7 +7,7 @@ from radacctd_site.copies.restoring import ANSWERS
 from radacctl.setup import alone
 from radacctl.setup.steps import Command, File
 
-TIMER, UNIT = "radacctd-copy.timer", "radacctd-copy.service"
+TIMER, UNIT = "radacctd-night.timer", "radacctd-copy.service"
 
 
 def files(answers, _):

@@ -16,6 +16,7 @@ from radacctd_site.core import Failed
 from radacctd_site.copies import book, kept, owners, places
 from radacctl import files, postgres, site
 from radacctl.doctor import look
+from radacctl.setup import steps
 
 NEW, AWAY = f"{places.FOLDER}/.new", f"{places.FOLDER}/away"
 OLD = ".old"
@@ -170,6 +171,20 @@ def checked(name):
     return path
 
 
+def carry_forward():
+    """On the second of a month, if the site says which old sessions: the copy has them as they were.
+    The server stands still for it.
+    """
+    words = os.environ.get("RADACCTD_FORWARD", "").split()
+    if not words or time.localtime().tm_mday != 2:
+        return
+    oldest = os.environ.get("RADACCTD_OLDEST_REPORT", "").split()
+    with book.stopped() as did_run:
+        if did_run:
+            print(steps.given([site.program(), "forward", "--config", site.CONFIG, "--db", site.BOOK,
+                               "--explain", *oldest, *words]), end="")
+
+
 def night():
     """All of a night, one at a time."""
     os.umask(0o077)
@@ -187,6 +202,7 @@ def night():
         export(path, name)
         remove_old()
         send_off(path)
+        carry_forward()
     finally:
         shutil.rmtree(NEW, ignore_errors=True)
         os.close(lock)

@@ -196,6 +196,22 @@ class Taking(Site):
         self.assertEqual(places.names(), ["site-2026-01-04", "site-2026-01-05", new])
         self.assertEqual(sorted(os.listdir(places.FOLDER)), [".lock", "exports", *places.names()])
 
+    def test_old_sessions_are_carried_forward_on_the_second_of_a_month(self):
+        words = {"RADACCTD_FORWARD": "--before 90 --keep books",
+                 "RADACCTD_OLDEST_REPORT": "--oldest-report 60"}
+        said = f"#!/bin/sh\necho \"$@\" >>{self.top}/said\n"
+        written(f"{self.top}/forward", said, mode=0o755)
+        self.patch(site, program=lambda: f"{self.top}/forward")
+        for day, env, count in ((1, words, 0), (2, {}, 0), (2, words, 1)):
+            now = time.localtime()[:2] + (day,) + time.localtime()[3:]
+            with mock.patch.dict(os.environ, env), mock.patch.object(
+                    time, "localtime", lambda *_, now=now: time.struct_time(now)):
+                taking.carry_forward()
+            self.assertEqual(len(self.calls), 2 * count, day)
+        self.assertEqual(self.calls, [["stop", book.UNIT], ["start", book.UNIT]])
+        self.assertIn("forward --config /etc/radacctd.toml --db", text_of(f"{self.top}/said"))
+        self.assertIn("--oldest-report 60 --before 90 --keep books", text_of(f"{self.top}/said"))
+
     def test_a_server_that_was_stopped_stays_so(self):
         with mock.patch.object(look, "is_active", lambda _: False):
             self.night()

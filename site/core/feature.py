@@ -6,6 +6,7 @@ from radacctd_site.core.features import ANYBODY, STAFF, Page
 COMMANDS = {
     "person": ("makes, lists and ends logins of cashiers and operators", "person"),
     "minute": ("sends again what the book has not answered, for the timer", "minute"),
+    "night": ("does what the features do each night, for the timer", "night"),
 }
 PAGES = [
     Page("GET", "/login/", "pages:login_form", ANYBODY),
@@ -18,4 +19,4 @@ PAGES = [
 TABLES = acts.TABLES + people.TABLES
 PACKAGES = ["gunicorn", "libjs-bootstrap5", "python3-bottle", "python3-jinja2",
             "python3-segno"]
-UNITS = ["radacctd-site.socket", "radacctd-minute.timer"]
+UNITS = ["radacctd-site.socket", "radacctd-minute.timer", "radacctd-night.timer"]

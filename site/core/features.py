@@ -6,7 +6,8 @@ Nothing else names a feature, so one whose folder is removed is gone. A feature.
     PAGES      which pages there are, and who may ask for them: each a Page
     MENU       what the menu of each page has: each an Entry
     TABLES     its tables in site.db
-    EACH_MINUTE  what is done each minute, by the name of a function
+    EACH_MINUTE  what is done each minute, by the name of a function: as the user of the pages
+    EACH_NIGHT   what is done each night, by the name of a function: as root
     OF_ACCOUNT where the staff goes on from an account: each an Entry
     WHOSE      the account of a key that a guest gives, by the name of a function
     REFUSES    why nothing is sold to an account, by the name of a function

@@ -47,6 +47,15 @@ class Acts(Site):
         self.book.is_away = False
         self.assertEqual(self.run_it("minute"), "answered now: 1\n")
 
+    def test_a_night_goes_on_after_a_feature_that_failed(self):
+        def fails():
+            raise Failed("no disk")
+
+        done = []
+        with mock.patch.object(features, "functions", lambda _: [fails, lambda: done.append(1)]):
+            self.assertRaisesRegex(Failed, "not all was done: 1 failed", self.run_it, "night")
+        self.assertEqual(done, [1])
+
     def test_what_the_desk_does_not_understand_keeps_nothing_back(self):
         credit, other = self.book.credit, ACT._replace(number="V-2")
         self.book.credit = lambda *it: desk.STRANGE if it[2] == "V-1" else desk.AWAY

@@ -9,8 +9,7 @@ root.
 
 A line is `critical NAME: WHAT. Do: CURE` or `warning NAME: WHAT. Do: CURE`. --list prints each NAME
 that it knows, with its meaning. --only shows faults of these names alone. --quiet prints nothing
-about a sound site. --counts writes into FILE, for node_exporter, how many lines each NAME has: the
-timer radacctd-faults does that each hour.
+about a sound site. --counts writes into FILE, for node_exporter, how many lines each NAME has.
 
 It ends with 0 if nothing is wrong, with 1 if there are warnings only, with 2 for a bad command
 line, with 3 if something is critical: reports or logins are affected now. It ends with 4 if it

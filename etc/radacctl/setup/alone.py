@@ -307,7 +307,7 @@ def is_debians(path, text, package):
 
 def of(answers, config):
     """The steps, in their order."""
-    if not site.INSTALLED.startswith("/usr/libexec/"):
+    if not site.INSTALLED.startswith("/usr/lib/"):
         # No package made the service's user and folders.
         yield user(site.USER, site.READERS)
         yield Command("make the folders", lambda: os.path.isdir(os.path.dirname(site.BALANCES)),
