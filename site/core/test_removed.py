@@ -8,7 +8,7 @@ import tempfile
 import unittest
 
 import radacctl
-from radacctd_site.core import features
+from radacctd_site.core import features, test_core
 
 # Runs the tests of who may ask for which page of a kit in a folder, and loads its commands, parts of
 # the set-up and looks.
@@ -38,6 +38,19 @@ class Removed(unittest.TestCase):
                 words = ["/usr/bin/python3", "-Bc", CHECK, *radacctl.__path__]
                 done = subprocess.run(words, cwd=folder, capture_output=True, text=True)
                 self.assertEqual(done.returncode, 0, done.stderr[-2000:])
+
+    def test_no_text_is_kept_that_nothing_says(self):
+        sources = ""
+        for path in glob.glob(f"{features.TOP}/*/*.html") + glob.glob(f"{features.TOP}/*/*.py"):
+            with open(path, encoding="utf-8") as file:
+                sources += "" if os.path.basename(path).startswith("test_") else file.read()
+        wanted = test_core.texts_of(sources)
+        for language in ("de", "fr"):
+            with open(f"{features.TOP}/locale/{language}.po", encoding="utf-8") as file:
+                known = set(test_core.entries_of(file.read()))
+            # What a variable says, or a menu, is a text of its own.
+            left = [it for it in known - wanted if f'"{it}"' not in sources]
+            self.assertEqual(left, [], language)
 
     def test_the_core_names_no_feature(self):
         for path in glob.glob(f"{features.TOP}/core/*"):

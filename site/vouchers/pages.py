@@ -96,11 +96,11 @@ def withdraw(visit):
     found = vouchers.named(db, what)
     if not visit.field("sure"):
         return visit.page(
-            "core/asked.html", title=visit.text("Withdraw vouchers"), more=(), kind="danger",
+            "core/asked.html", title=visit.text("Withdraw"), more=(), kind="danger",
             question=visit.text("Withdraw %(count)s codes of %(what)s for ever?", count=len(found),
                                 what=what),
             path="/vouchers/", fields={"act": "withdraw", "what": what}, yes=visit.text("Withdraw"),
-            no=visit.text("Keep them"), back="/vouchers/")
+            no=visit.text("Keep it"), back="/vouchers/")
     ended = vouchers.end(db, found, visit.name)
     new, repeat, spent, rest = vouchers.send(db, places.book(), ended[:AT_ONCE])
     return sheets(visit, visit.text(
