@@ -26,6 +26,8 @@ CREATE INDEX IF NOT EXISTS act_open ON act (begun) WHERE answer IS NULL;
 CREATE INDEX IF NOT EXISTS act_account ON act (account);
 CREATE INDEX IF NOT EXISTS act_who ON act (who);
 """
+# Who sells by a command: no person can have this name.
+COMMAND = "(command)"
 # What ends an act: the book has said what became of it, and will say no other thing.
 TAKEN = (desks.NEW, desks.REPEAT)
 FINAL = (*TAKEN, desks.DIFFERS, desks.LIMIT)

@@ -8,6 +8,11 @@ import sys
 from radacctd_site.core import Failed, features
 
 
+def is_much(count, total, site):
+    """Whether a person is asked before so many of a sum are made: 100, or 1000 in the site's money."""
+    return count > 100 or count * total > 1000 * 10**site.decimals
+
+
 def confirm(question, is_sure):
     """Ends unless a person says y, or has given --yes."""
     if is_sure:

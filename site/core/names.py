@@ -19,7 +19,7 @@ FIRST, OTHER = re.compile(r"\w"), re.compile(r"[^\w .@-]")
 # What the desk takes as itself; any other octet is % and two digits there.
 PLAIN = frozenset(string.printable[:95].encode()) - frozenset(b'%"\\')
 # What makes a field a formula, in spite of apostrophes before it.
-FORMULA = re.compile(r"'*[=+\-@\t\r]")
+BELOW_0, FORMULA = re.compile(r"-[0-9]+(?:\.[0-9]+)?"), re.compile(r"'*[=+\-@\t\r]")
 
 
 class WrongFile(Failed):
@@ -83,6 +83,16 @@ def cell(text):
 def text_of_cell(field):
     """What a field of a CSV file for people says."""
     return field[1:] if field[:1] == "'" and FORMULA.match(field) else field
+
+
+def csv_of(header, rows):
+    """Rows as a CSV file for people: a sum may be below 0, and no field is a formula."""
+    file = io.StringIO(newline="")
+    writer = csv.writer(file, lineterminator="\n")
+    writer.writerow(header)
+    writer.writerows([it if BELOW_0.fullmatch(it) else cell(it) for it in map(str, row)]
+                     for row in rows)
+    return file.getvalue()
 
 
 def records_in(path, columns, one, marks=","):

@@ -11,7 +11,7 @@ The status is that of `radacctl sell`.
 import hashlib
 import re
 
-from radacctd_site.core import Failed, money, names, places, store
+from radacctd_site.core import Failed, acts, money, names, places, store
 from radacctd_site.core.acts import Act
 from radacctd_site.desk import sales, sell
 
@@ -41,7 +41,7 @@ def acts_of(path, month, text, site):
         if account in found:
             raise ValueError(f"`{account}` is in the list twice")
         number = number_of(month, account)
-        found[account] = Act(number, account, total, sales.SALE, sales.COMMAND, 0)
+        found[account] = Act(number, account, total, sales.SALE, acts.COMMAND, 0)
 
     names.records_in(path, ["account"] + ["sum"] * (text is None), one)
     return [*found.values()]

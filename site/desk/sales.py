@@ -5,8 +5,6 @@ counts in the shift in which the book said so: the end of a shift counts what no
 so that no clock decides, and what has ended does not change.
 """
 
-import csv
-import io
 import time
 
 from radacctd_site.core import Failed, accounts, acts, codes, corrections, names, places
@@ -14,8 +12,6 @@ from radacctd_site.core.acts import SOLD, TAKEN, Act, state_of, sums
 from radacctd_site.core.features import OPERATOR
 
 SALE, BACK = "sale", "back"
-# Who sells by `radacctl sell`: no person can have this name.
-COMMAND = "(command)"
 # What was paid or given back, and no shift has counted yet.
 OPEN = """FROM act WHERE who = ? AND paid <> 0 AND answer IN ('new', 'repeat') AND NOT EXISTS (
     SELECT 1 FROM counted WHERE (number, account, sum) = (act.number, act.account, act.sum))"""
@@ -104,13 +100,8 @@ def shifts(db, who, role, most=10):
 
 
 def csv_of(rows, site):
-    """The same for a ledger, each act a line. No field of it is a formula for a spreadsheet."""
-    file = io.StringIO(newline="")
-    writer = csv.writer(file, lineterminator="\n")
-    writer.writerow(COLUMNS)
-    for it in rows:
-        moment = time.strftime("%Y-%m-%d %H:%M:%S", time.localtime(it["moment"]))
-        texts = (it["number"], names.readable(it["account"]), it["kind"], it["who"])
-        writer.writerow([moment, *map(names.cell, texts), site.plain(it["sum"]),
-                         site.plain(it["paid"]), state_of(it)])
-    return file.getvalue()
+    """The same for a ledger, each act a line."""
+    return names.csv_of(COLUMNS, [
+        (time.strftime("%Y-%m-%d %H:%M:%S", time.localtime(it["moment"])), it["number"],
+         names.readable(it["account"]), it["kind"], it["who"], site.plain(it["sum"]),
+         site.plain(it["paid"]), state_of(it)) for it in rows])

@@ -46,8 +46,8 @@ def act_of(number, account, text, read):
     """The act of a sum, or None if `read` knows none: with - before it, it is taken back."""
     total = read(text.removeprefix("-"))
     if total is None or text[:1] != "-":
-        return total and Act(number, account, total, sales.SALE, sales.COMMAND)
-    return Act(number, account, -total, sales.BACK, sales.COMMAND)
+        return total and Act(number, account, total, sales.SALE, acts.COMMAND)
+    return Act(number, account, -total, sales.BACK, acts.COMMAND)
 
 
 def record(cells):

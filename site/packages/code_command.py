@@ -5,31 +5,25 @@ https://HOST/packages/SHEET, or write it by `print` into a file that a browser p
 page may use the codes. What is left on a login that ended stays on its account.
 """
 
-import csv
 import datetime
-import sys
 
-from radacctd_site.core import Failed, cli, codes, moment, money, names, paper, places, store
+from radacctd_site.core import Failed, acts, cli, codes, moment, money, names, paper, places, store
 from radacctd_site.packages import logins, packages, pages
 
-# Above these a person is asked: so many codes, and so much money together.
-ASK_COUNT, ASK_TOTAL = 100, 1000
-# Who sells by a command: no person can have this name.
-COMMAND = "(command)"
 COLUMNS = ("account", "package", "state", "sum", "sheet", "who", "made")
 
 
 def arguments(it):
-    acts = it.add_subparsers(dest="act", required=True)
-    make = acts.add_parser("make", help="make and sell codes, or a name with a password")
+    one_of = it.add_subparsers(dest="act", required=True)
+    make = one_of.add_parser("make", help="make and sell codes, or a name with a password")
     make.add_argument("package")
     make.add_argument("--count", type=int, default=1, help=f"how many codes: 1 to {logins.MOST}")
     make.add_argument("--name", help="the name of a guest, in the place of a code")
-    listed = acts.add_parser("list", help="print logins as CSV: all, or those of a text")
+    listed = one_of.add_parser("list", help="print logins as CSV: all, or those of a text")
     listed.add_argument("what", nargs="?", help="a code, name, serial number, sheet or package")
-    printed = acts.add_parser("print", help="print cards as a page for a browser (HTML)")
+    printed = one_of.add_parser("print", help="print cards as a page for a browser (HTML)")
     printed.add_argument("what", help="a code, name, serial number or sheet")
-    end = acts.add_parser("end", help="end logins for ever")
+    end = one_of.add_parser("end", help="end logins for ever")
     end.add_argument("what", nargs="+", help="a code, name, serial number or sheet")
     for one in (make, end):
         one.add_argument("--yes", action="store_true", help="ask nothing")
@@ -42,11 +36,11 @@ def make(db, book, key, words):
         raise Failed(f"make 1 to {logins.MOST} codes, or one name")
     if words.name and (why := names.why_not(words.name) or logins.refuses(db, words.name)):
         raise Failed(f"{words.name} cannot be a name: {why}")
-    if count > ASK_COUNT or count * package.sum > ASK_TOTAL * 10**site.decimals:
+    if cli.is_much(count, package.sum, site):
         cli.confirm(f"{count} codes of {worth}, {site.shown(count * package.sum)} together?",
                     words.yes)
     sheet = f"{package.name}-{datetime.date.today():%Y%m%d}-{codes.letters(5)}" * (count > 1)
-    made = [logins.drawn(key, package, codes.new(), COMMAND, words.name or "", sheet)
+    made = [logins.drawn(key, package, codes.new(), acts.COMMAND, words.name or "", sheet)
             for _ in range(count)]
     logins.make(db, book, made)
     what = sheet or made[0].account
@@ -62,11 +56,9 @@ def make(db, book, key, words):
 def show(db, what):
     found = logins.named(db, what) if what else logins.listed(db)
     found = found or logins.listed(db, "package = ?", what)
-    writer, site = csv.writer(sys.stdout, lineterminator="\n"), money.of_site(places.SETTINGS)
-    writer.writerow(COLUMNS)
-    for it in found:
-        row = {**it, "sum": site.plain(it["sum"]), "made": moment(it["made"])}
-        writer.writerow([names.cell(str(row[name])) for name in COLUMNS])
+    site = money.of_site(places.SETTINGS)
+    rows = ({**it, "sum": site.plain(it["sum"]), "made": moment(it["made"])} for it in found)
+    print(names.csv_of(COLUMNS, [[row[name] for name in COLUMNS] for row in rows]), end="")
 
 
 def end(db, words):

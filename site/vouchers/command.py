@@ -4,14 +4,8 @@ A sheet is a page: print it at https://HOST/vouchers/SHEET, or write it by `prin
 a browser prints. A withdrawn code stays so, also if an older site.db is put back: the book has it.
 """
 
-import csv
-import sys
-
 from radacctd_site.core import Failed, cli, codes, money, names, paper, places, store
 from radacctd_site.vouchers import pages, vouchers
-
-# Above these a person is asked: so many codes, and so much money together.
-ASK_COUNT, ASK_TOTAL = 100, 1000
 
 
 def arguments(it):
@@ -38,7 +32,7 @@ def make(db, words):
                      f"{site.plain(500)}: not {words.sum}")
     count, worth = words.count, site.shown(total)
     together = site.shown(count * total)
-    if count > ASK_COUNT or count * total > ASK_TOTAL * 10**site.decimals:
+    if cli.is_much(count, total, site):
         cli.confirm(f"{count} vouchers of {worth}, {together} together?", words.yes)
     name = vouchers.make(db, count, total)
     url = places.settings()["url"].rstrip("/")
@@ -52,10 +46,7 @@ def show(db, sheet):
             print(f"{it.name}: of {site.shown(it.sum)}: live {it.live}, given {it.given}, "
                   f"withdrawn {it.withdrawn}, waiting {it.waiting}")
         return
-    writer = csv.writer(sys.stdout, lineterminator="\n")
-    writer.writerow(["code", "sum", "state", "account"])
-    for it in vouchers.codes_of(db, sheet):
-        writer.writerow([names.cell(str(field)) for field in it])
+    print(names.csv_of(("code", "sum", "state", "account"), vouchers.codes_of(db, sheet)), end="")
 
 
 def codes_in(path):
