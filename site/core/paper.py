@@ -6,9 +6,9 @@ from radacctd_site.core import web
 
 
 def qr(text):
-    """A picture (SVG) of a text for a phone."""
-    return segno.make(text, micro=False).svg_inline(border=1, omitsize=True, svgclass=None,
-                                                    lineclass=None)
+    """A picture (SVG) of a text for a phone, which reads it from a dark page, too."""
+    return segno.make(text, micro=False).svg_inline(border=2, light="#fff", omitsize=True,
+                                                    svgclass=None, lineclass=None)
 
 
 def page(template, values):

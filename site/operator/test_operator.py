@@ -1,5 +1,7 @@
 """The operator's page and commands, over a book in memory."""
 
+import contextlib
+import io
 import json
 import time
 from unittest import mock
@@ -81,6 +83,9 @@ class Operator(Site):
         with mock.patch.object(sessions, "MOST", 1):
             self.tell(al=[session(1, self.now)], bo=[session(1, self.now)])
             self.assertIn("Only 1 accounts", self.page())
+            with contextlib.redirect_stderr(io.StringIO()) as said:
+                self.run_it("who")
+            self.assertIn("only 1 of 2 accounts", said.getvalue())
 
     def test_an_account(self):
         self.tell(al=[session(1, 2000, state="stopped")])
