@@ -8,7 +8,7 @@ import sqlite3
 import time
 from unittest import mock
 
-from radacctd_site.core import Failed, acts, desk, features, money, names, people, store, web
+from radacctd_site.core import Failed, acts, desk, features, people, store, web
 from radacctd_site.core.acts import Act
 from radacctd_site.core.features import CASHIER, OPERATOR
 from radacctd_site.core.test_client import PASSWORD, Browser, Site
@@ -321,19 +321,3 @@ def texts_of(source):
 def entries_of(text):
     found = re.findall(r'msgid ((?:"[^\n]*"\s*)+)msgstr ((?:"[^\n]*"\s*)+)', text)
     return {joined(one): joined(other) for one, other in found if joined(one)}
-
-
-class Money(Site):
-    def test_sums(self):
-        it = money.Money(2, "EUR")
-        self.assertEqual([it.units(text) for text in ("5", "5.00", "5,5", "5.001", "0", "1e3", "")],
-                         [500, 500, 550, None, None, None, None])
-        self.assertEqual(it.shown(-123456), "-1234.56 EUR")
-
-    def test_names(self):
-        for name in ("", "\x01a", " a", "a ", "a\u200b", "%{x}", "1.23457E+11", "a" * 61, "я" * 31,
-                     "-a", "@a", ".", "..", b"\xff", b"a\0", "ä\n", "a\u00a0b", "e\u0301",
-                     *(f"a{it}b" for it in "+'#&?;%\"\\/,=<>|:")):
-            self.assertIsNotNone(names.why_not(name), name)
-        for name in ("al", "room 12", "müller", "a.b-c_d@e", "Łódź", "王", "_x", "1" * 60, "я" * 30):
-            self.assertIsNone(names.why_not(name), name)
