@@ -101,17 +101,6 @@ class Browser:
             self.driver.wait(timeout=20)
         self.session = self.driver = None
 
-    def cut(self):
-        """Ends each process of the browser at once, as a power cut does; the profile stays."""
-        for name in filter(str.isdigit, os.listdir("/proc")):
-            try:
-                with open(f"/proc/{name}/cmdline", "rb") as file:
-                    if self.profile.encode() in file.read() and int(name) != os.getpid():
-                        os.kill(int(name), signal.SIGKILL)
-            except OSError:
-                continue
-        self.kill()
-
     def go(self, url):
         # A new document each time, even if only the fragment differs.
         self.call("POST", "/url", {"url": "about:blank"})
@@ -122,12 +111,6 @@ class Browser:
 
     def debug(self, command, **more):
         return self.call("POST", "/goog/cdp/execute", {"cmd": command, "params": more})
-
-    def log_in(self, name, password):
-        coded = base64.b64encode(f"{name}:{password}".encode()).decode()
-        self.debug("Network.enable")
-        headers = {"Authorization": f"Basic {coded}"}
-        self.debug("Network.setExtraHTTPHeaders", headers=headers)
 
     def text(self, selector="body"):
         """What a person sees of an element."""
@@ -147,9 +130,6 @@ class Browser:
         acts = [{"type": kind, "value": it} for it in text for kind in ("keyDown", "keyUp")]
         source = {"type": "key", "id": "keyboard", "actions": acts}
         self.call("POST", "/actions", {"actions": [source]})
-
-    def focused(self):
-        return self.js("return document.activeElement.id || document.activeElement.tagName")
 
     def click(self, selector):
         self.js("document.querySelector(arguments[0]).click()", selector)
@@ -177,10 +157,6 @@ class Browser:
         """By how many pixels the page is wider than the window."""
         return self.js("return document.documentElement.scrollWidth - window.innerWidth")
 
-    def height(self):
-        """How high the whole page is."""
-        return self.js("return document.documentElement.scrollHeight")
-
     def theme(self, name):
         feature = {"name": "prefers-color-scheme", "value": name}
         self.debug("Emulation.setEmulatedMedia", features=[feature])
@@ -200,24 +176,6 @@ class Browser:
             if role in roles and not it.get("ignored") and not name.strip():
                 found.append(role)
         return found
-
-    def offline(self, is_off):
-        self.debug("Network.enable")
-        self.debug(
-            "Network.emulateNetworkConditions",
-            offline=is_off,
-            latency=0,
-            downloadThroughput=-1,
-            uploadThroughput=-1,
-        )
-
-    def pdf_text(self, folder):
-        """The text of what the page prints."""
-        path = os.path.join(folder, "printed.pdf")
-        with open(path, "wb") as file:
-            file.write(base64.b64decode(self.call("POST", "/print", {})))
-        done = subprocess.run(["pdftotext", "-layout", path, "-"], capture_output=True, text=True)
-        return done.stdout
 
     def picture(self, path):
         with open(path, "wb") as file:
