@@ -1,5 +1,5 @@
 """The cases of interop/access-servers: reads the files of interop/access_servers, and makes the
-packets. access_servers/README says how a case is written.
+packets. access_servers/README.md says how a case is written.
 """
 
 import dataclasses
@@ -13,7 +13,7 @@ import socket
 import time
 
 from access_dictionary import Dictionary, octets
-from front import attribute
+from served import attribute
 
 FOLDER = os.path.join(os.path.dirname(os.path.abspath(__file__)), "access_servers")
 STATUSES = {"start": 1, "stop": 2, "interim": 3, "on": 7, "off": 8, "tunnel-start": 9}
@@ -34,8 +34,8 @@ LARGEST = 4096
 # What a report has for a name if another one logged in.
 OTHER_NAMES = (None, "0x", "outer", "alias", "AL")
 # What a case may say, and how a reason begins.
-COLUMNS = {it: [it] for it in ("right", "alone", "stamped", "proxied", "files")}
-COLUMNS["program"] = ["alone", "stamped", "proxied"]
+PROGRAM = ["alone", "stamped", "proxied"]
+COLUMNS = {"right": ["right"], **{it: [it] for it in PROGRAM}, "program": PROGRAM}
 KINDS = {"The specification": "specification", "Not known": "not known", "A setting": "setting"}
 
 
@@ -67,9 +67,6 @@ class Wanted:
 
     answers: str
     charges: list
-    filed: int
-    # What is counted of the access server; only FreeRADIUS' files count.
-    counted: set
     reason: str
 
     def kind(self):
@@ -92,7 +89,7 @@ class Case:
 
     def __init__(self, number, name, group):
         self.number, self.name, self.group = number, name, group
-        self.who = self.says = ""
+        self.who = ""
         self.is_life = False
         self.every, self.lines, self.client = [], [], []
         # What is right, and what a target does by its specification where that differs.
@@ -131,7 +128,7 @@ class Case:
 
     def copy(self, number, variant, lines):
         other = Case(number, f"{self.name}, {variant}", self.group)
-        other.who, other.says = self.who, self.says
+        other.who = self.who
         other.every, other.client, other.lines = self.every, self.client, lines
         other.wanted, other.variant = self.wanted, variant
         other.is_life = True
@@ -350,13 +347,12 @@ class Reader:
 
     def row(self, rest):
         """A case of a table: the words that take the place of {}."""
-        says, _, words = rest.partition("|")
-        words = words.strip()
+        _, words, *right = (it.strip() for it in re.split(r" \|(?: |$)", rest))
         case = Case(len(self.cases) + 1, f"{self.table.name}: {words}", self.group)
-        case.says = says.strip()
         case.lines = [line.replace("{}", words) for line in self.table.lines]
-        for word, said in self.table.said:
-            self.of_case(case, word, said.replace("{}", words))
+        said = [*self.table.said, *(("right", it) for it in right)]
+        for word, text in said:
+            self.of_case(case, word, text.replace("{}", words))
         self.cases.append(case)
 
     def of_case(self, case, word, rest):
@@ -368,8 +364,8 @@ class Reader:
             case.every = shlex.split(rest)
         elif word == "client":
             case.client = rest.split()
-        elif word in ("who", "says"):
-            setattr(case, word, rest)
+        elif word == "who":
+            case.who = rest.partition("|")[0].strip()
         else:
             raise Mistake(f"{word} is none of the words of a case")
 
@@ -381,17 +377,9 @@ def wanted(case, text, columns):
     answers = ""
     if re.fullmatch(r"[R-]+", words[0]):
         answers, text = words[0], words[1]
-    charges, filed, counted = [], 0, set()
-    for one in text.split(","):
-        one = one.split()
-        if one[0] == "filed":
-            filed = int(one[1])
-        elif one[0] == "counted":
-            counted.add(one[1])
-        elif one[0] != "nothing":
-            charges.append(charge(one))
-    found = Wanted(answers, charges, filed, counted, reason.strip())
-    if columns != "right" and not (found.kind() or columns == "files" and found.reason):
+    charges = [charge(it.split()) for it in text.split(",") if it.strip() != "nothing"]
+    found = Wanted(answers, charges, reason.strip())
+    if columns != "right" and not found.kind():
         raise Mistake(f"{case.name}: a reason begins with one of {', '.join(KINDS)}")
     return found
 
@@ -420,8 +408,7 @@ def read_all(folder=FOLDER):
         for variant, other in (
             ("each packet twice", [*logins, *(it for it in lines for it in (it, it))]),
             ("the last packet first", [*logins, *lines[::-1]]),
-            (OVER_A_RESTART, [*logins, *lines]),
-        ):
+            (OVER_A_RESTART, [*logins, *lines])):
             reader.cases.append(case.copy(len(reader.cases) + 1, variant, other))
     for case in reader.cases:
         for step in case.steps():

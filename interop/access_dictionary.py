@@ -108,17 +108,9 @@ def prefix(family):
 
 
 TYPES = {
-    "integer": number(">I"),
-    "date": number(">I"),
-    "signed": number(">i"),
-    "short": number(">H"),
-    "byte": number(">B"),
-    "integer64": number(">Q"),
-    "ipaddr": socket.inet_aton,
+    "integer": number(">I"), "date": number(">I"), "signed": number(">i"), "short": number(">H"),
+    "byte": number(">B"), "integer64": number(">Q"), "ipaddr": socket.inet_aton,
     "ipv6addr": lambda value: socket.inet_pton(socket.AF_INET6, value),
-    "ipv6prefix": prefix(socket.AF_INET6),
-    "ipv4prefix": prefix(socket.AF_INET),
+    "ipv6prefix": prefix(socket.AF_INET6), "ipv4prefix": prefix(socket.AF_INET),
     "ifid": lambda value: b"".join(struct.pack(">H", int(it, 16)) for it in value.split(":")),
-    "ether": lambda value: bytes.fromhex(value.replace(":", "")),
-    "octets": octets,
-}
+    "ether": lambda value: bytes.fromhex(value.replace(":", "")), "octets": octets}

@@ -86,7 +86,7 @@ class Proxied(Logins, access_targets.Debian):
     def __init__(self, folder, cases):
         self.vpn_servers = [it.source() for it in cases if it.setting("plan")]
         more = "stamped = true\nproxy = true\n"
-        clients = [(name, place, front.BOOK_SECRET, more + plan)
+        clients = [front.client_text(name, place, front.BOOK_SECRET, more + plan)
                    for name, (place, plan) in self.realms.items()]
         self.book = access_targets.Book(folder, clients, self.top)
         super().__init__(folder, access_targets.debians(folder))

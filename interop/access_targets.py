@@ -5,6 +5,7 @@ FreeRADIUS' own SQL.
 import contextlib
 import csv
 import datetime
+import hashlib
 import io
 import os
 import re
@@ -13,9 +14,10 @@ import subprocess
 import urllib.parse
 
 import front
-import old_memory
+import served
 from access_cases import CLASS, USER, Charge, Packet, address, bare, pairs_of
-from front import KILL, LISTEN, SECRET, attribute, check
+from front import LISTEN, SECRET
+from served import attribute, check, free_port, text_of
 
 MEBIBYTE = 1 << 20
 octets = urllib.parse.unquote_to_bytes
@@ -133,17 +135,6 @@ class Target:
         check(f"{self.name}: {case.name}: the login is accepted", False, True)
         return None
 
-    def filed(self):
-        """The sources of the reports that were filed."""
-        return []
-
-    def counted(self):
-        """What is counted of which source."""
-        return set()
-
-    def settles(self):
-        pass
-
     def restart(self):
         ended(self.book)
         self.book.start()
@@ -151,7 +142,7 @@ class Target:
     def rows(self):
         """The sessions of radacctd's book. A server has it for itself, so it is ended before."""
         ended(self.book)
-        return list(rows_of_radacctd(self.book.export("sessions")))
+        return list(rows_of_radacctd(self.book.exported("sessions")))
 
     def end(self):
         ended(self.book)
@@ -162,7 +153,7 @@ def login_packet(case, step, secret):
     packet = Packet.__new__(Packet)
     packet.step, packet.secret, packet.identifier = step, secret, case.number % 256
     drawn = os.urandom(16)
-    hidden = front.KILL.hashlib.md5(secret + drawn).digest()
+    hidden = hashlib.md5(secret + drawn).digest()
     hidden = bytes(one ^ other for one, other in zip(b"right".ljust(16, b"\0"), hidden))
     names = {"User-Name", "user"} & {name for name, _ in step.pairs}
     body = b"" if names else attribute(USER, case.account("al"))
@@ -175,17 +166,11 @@ def login_packet(case, step, secret):
 
 
 class Book(front.Book):
-    """radacctd, with these clients: of each the name, the address, the secret and more lines."""
+    """radacctd, with these clients, as lines of its configuration."""
 
     def __init__(self, folder, clients, top=""):
-        self.text = top + "".join(
-            f'[[client]]\nname = "{name}"\naddress = "{place}"\nsecret = "{secret}"\n{more}'
-            for name, place, secret, more in clients
-        )
-        self.text += "".join(
-            f'[[plan]]\nclass = "{name}"\nblock = {block}\nunit = {unit}\ncount = "{count}"\n'
-            for name, block, unit, count in PLANS
-        )
+        plans = (served.plan(name, count, block, unit) for name, block, unit, count in PLANS)
+        self.text = "".join([top, *clients, *plans])
         super().__init__(folder)
 
     def configuration(self):
@@ -203,7 +188,8 @@ class Alone(Target):
     name, top = "radacctd alone", ""
 
     def __init__(self, folder, cases):
-        clients = [(it, it, SECRET, self.more(case)) for case in cases for it in case.sources()]
+        clients = [front.client_text(it, it, SECRET, self.more(case))
+                   for case in cases for it in case.sources()]
         self.book = Book(folder, clients, self.top)
         self.port = self.book.radius
         self.book.start()
@@ -218,7 +204,7 @@ class Debian(Target):
 
     def __init__(self, folder, raddb):
         self.folder, self.raddb = folder, raddb
-        self.port, self.auth = (KILL.free_port(socket.SOCK_DGRAM) for _ in range(2))
+        self.port, self.auth = (free_port(socket.SOCK_DGRAM) for _ in range(2))
         self.log, self.process = os.path.join(folder, "out"), None
         for name in ("log", "run", "log/radacct"):
             os.makedirs(os.path.join(folder, name), exist_ok=True)
@@ -235,19 +221,14 @@ class Debian(Target):
             listens += listen.replace("type =", "virtual_server = default\n\t\ttype =", 1)
         front.written(os.path.join(self.raddb, "sites-enabled", "port"), listens)
 
-    def said(self):
-        with open(self.log, encoding="utf-8", errors="replace") as file:
-            return file.read()
-
     def start(self):
         with open(self.log, "wb") as file:
             words = ["freeradius", "-d", self.raddb, "-f", "-l", "stdout"]
-            environment = old_memory.added(dict(os.environ), self.raddb)
-            self.process = subprocess.Popen(words, stdout=file, stderr=file, env=environment)
+            self.process = subprocess.Popen(words, stdout=file, stderr=file)
         ready = "Ready to process requests"
-        front.waits_for(f"{self.name}: FreeRADIUS is ready", lambda: ready in self.said(), True)
-        if ready not in self.said():
-            raise SystemExit(self.said()[-2000:])
+        front.waits_for(f"{self.name}: FreeRADIUS is ready", lambda: ready in text_of(self.log), True)
+        if ready not in text_of(self.log):
+            raise SystemExit(text_of(self.log)[-2000:])
 
     def stop(self):
         if self.process is not None and self.process.poll() is None:
@@ -285,8 +266,7 @@ class Sql(Debian):
         for one, other in (
             ('driver = "rlm_sql_null"', 'driver = "rlm_sql_sqlite"'),
             ('filename = "/tmp/freeradius.db"', f'filename = "{self.database}"'),
-            ("busy_timeout = 200", "busy_timeout = 10000"),
-        ):
+            ("busy_timeout = 200", "busy_timeout = 10000")):
             front.edited(raddb, "mods-available/sql", one, other)
         os.symlink("../mods-available/sql", os.path.join(raddb, "mods-enabled/sql"))
         # As the file itself says to keep the Class.

@@ -6,33 +6,32 @@ docs/reference/files.md, and compared with what `radacctd export` writes.
 """
 
 import collections
+import contextlib
 import csv
 import dataclasses
 import functools
-import hashlib
 import http.client
 import json
 import os
 import signal
 import socket
 import subprocess
+import tempfile
 import time
 import urllib.parse
 
 import served
-from served import CASHIER, PLANS, ROOT, SECRET
+from power import memory, write
+from served import CASHIER, PLANS, ROOT, plan, signed
 
 # Another client, and a plan whose prices are others.
-MORE = (
-    '\n[[client]]\nname = "nas-8"\naddress = "127.0.0.2"\nsecret = "testing-123"\n'
-    '\n[[plan]]\nclass = "down"\nblock = 4096\nunit = 7\ncount = "out"\n'
-)
+MORE = '\n[[client]]\nname = "nas-8"\naddress = "127.0.0.2"\nsecret = "testing-123"\n'
+MORE += plan("down", "out", 4096, 7)
 CLIENTS = {"nas-7": "127.0.0.1", "nas-8": "127.0.0.2"}
 # The block, the unit, and what the plan counts.
 PRICES = {
     b"gold": (1_048_576, 10, lambda octets: sum(octets)),
-    b"down": (4_096, 7, lambda octets: octets[1]),
-}
+    b"down": (4_096, 7, lambda octets: octets[1])}
 ACCOUNTS = [b"room 12", b"al", b"b\xc3\xb6"]
 START, STOP, INTERIM, ON, OFF = 1, 2, 3, 7, 8
 OPEN, CLOSED, STOPPED = "open", "closed", "stopped"
@@ -76,8 +75,7 @@ class Voucher:
 
 # The columns of an exported session, but for its name and its moments.
 Fields = collections.namedtuple(
-    "Fields", "account plan input output total charged seconds state cause calling framed"
-)
+    "Fields", "account plan input output total charged seconds state cause calling framed")
 
 
 @dataclasses.dataclass(frozen=True)
@@ -115,15 +113,10 @@ class Row:
         by_count = max(self, other, key=lambda it: (it.counted(), sum(it.octets), it.octets[0]))
         is_stop = report.kind == STOP and self.state != STOPPED
         return dataclasses.replace(
-            by_count,
-            seconds=max(self.seconds, report.seconds),
-            first=tuple(map(min, self.first, moment)),
-            last=tuple(map(max, self.last, moment)),
-            state=STOPPED if is_stop else self.state,
-            cause=report.cause if is_stop else self.cause,
-            calling=self.calling or report.calling,
-            framed=self.framed or report.framed,
-        )
+            by_count, seconds=max(self.seconds, report.seconds),
+            first=tuple(map(min, self.first, moment)), last=tuple(map(max, self.last, moment)),
+            state=STOPPED if is_stop else self.state, cause=report.cause if is_stop else self.cause,
+            calling=self.calling or report.calling, framed=self.framed or report.framed)
 
 
 @dataclasses.dataclass(frozen=True)
@@ -256,35 +249,17 @@ def next_entry(rng, content, sent, has_restarts):
 
 def first_report(rng, number):
     return Report(
-        START,
-        rng.choice(list(CLIENTS)),
-        b"%x-%x" % (number, rng.randrange(1 << 40)),
-        rng.choice(ACCOUNTS),
-        rng.choice(list(PRICES)),
-        (rng.randrange(1, 1000), rng.randrange(1, 1000)),
-        delay=rng.randrange(5),
+        START, rng.choice(list(CLIENTS)), b"%x-%x" % (number, rng.randrange(1 << 40)),
+        rng.choice(ACCOUNTS), rng.choice(list(PRICES)),
+        (rng.randrange(1, 1000), rng.randrange(1, 1000)), delay=rng.randrange(5),
         calling=b"00-11-22-33-44-%02x" % rng.randrange(256),
-        framed=bytes([10, rng.randrange(256), rng.randrange(256), 1 + rng.randrange(250)]),
-    )
+        framed=bytes([10, rng.randrange(256), rng.randrange(256), 1 + rng.randrange(250)]))
 
 
 def later_report(rng, key, row, kind):
     more = tuple(it + rng.randrange(1 << 22) for it in row.octets)
-    return Report(
-        kind,
-        *key,
-        row.account,
-        row.plan,
-        more,
-        row.seconds + rng.randrange(1, 600),
-        rng.randrange(5),
-        rng.randrange(1, 10) if kind == STOP else 0,
-    )
-
-
-def attribute(kind, value):
-    value = value if isinstance(value, bytes) else value.to_bytes(4, "big")
-    return bytes([kind, len(value) + 2]) + value
+    return Report(kind, *key, row.account, row.plan, more, row.seconds + rng.randrange(1, 600),
+                  rng.randrange(5), rng.randrange(1, 10) if kind == STOP else 0)
 
 
 def packet(identifier, report):
@@ -297,10 +272,7 @@ def packet(identifier, report):
         told += [(46, report.seconds), (49, report.cause)]
         told += [(31, report.calling)] * bool(report.calling)
         told += [(8, report.framed)] * bool(report.framed)
-    attributes = b"".join(attribute(*it) for it in told)
-    head = bytes([4, identifier]) + (20 + len(attributes)).to_bytes(2, "big")
-    digest = hashlib.md5(head + bytes(16) + attributes + SECRET.encode()).digest()
-    return head + digest + attributes
+    return signed(identifier, told)
 
 
 class Site(served.Server):
@@ -313,14 +285,11 @@ class Site(served.Server):
 
     def make(self, *more):
         """Makes an empty book, and says whether the program took these words more."""
-        done = subprocess.run([*self.words("init"), *more], capture_output=True, check=False)
-        return done.returncode == 0
+        return self.told("init", *more)[0] == 0
 
     def begin(self, before=(), more=()):
-        ports = ["--radius-port", str(self.radius), "--desk-port", str(self.desk), *more]
-        self.process = subprocess.Popen(
-            [*before, *self.words("serve"), *ports], stdout=subprocess.PIPE, text=True
-        )
+        self.process = subprocess.Popen([*before, *self.serve(), *more], stdout=subprocess.PIPE,
+                                        text=True)
         line = self.process.stdout.readline()
         if line != "serving\n":
             raise SystemExit(f"the server did not start: {line!r}")
@@ -328,7 +297,7 @@ class Site(served.Server):
     def send(self, entry):
         """Sends an entry: the moments between which it was recorded."""
         begun = int(time.time())
-        if self.sell(entry) if isinstance(entry, Voucher) else self.report(entry):
+        if self.credit(entry) if isinstance(entry, Voucher) else self.report(entry):
             return begun, int(time.time())
         raise SystemExit(f"no answer to {entry}")
 
@@ -350,7 +319,7 @@ class Site(served.Server):
             except TimeoutError:
                 return False
 
-    def sell(self, entry):
+    def credit(self, entry):
         account = urllib.parse.quote(entry.account)
         body = json.dumps({"account": account, "sum": entry.sum, "voucher": entry.number})
         return self.status("POST", "/topups", body) in (200, 201)
@@ -372,12 +341,28 @@ class Site(served.Server):
 
     def exports(self):
         """The worst status of three exports of the book, their faults, and what they wrote."""
-        how = {"capture_output": True, "text": True, "check": False}
-        kinds = ("sessions", "topups", "balances")
-        done = [subprocess.run([*self.words("export"), it], **how) for it in kinds]
+        done = [self.told("export", it) for it in ("sessions", "topups", "balances")]
         # A status that is neither 0 nor 3 comes first, and that of a signal is below 0.
-        status = max((it.returncode for it in done), key=lambda it: (it not in (0, 3), abs(it)))
-        return status, "".join(it.stderr for it in done), [it.stdout for it in done]
+        status = max((it[0] for it in done), key=lambda it: (it not in (0, 3), abs(it)))
+        return status, "".join(it[2] for it in done), [it[1] for it in done]
+
+
+@contextlib.contextmanager
+def over(files, program):
+    """The program over copies of a book and its log, whose octets these are."""
+    with tempfile.TemporaryDirectory(prefix="radacctd-", dir=memory()) as folder:
+        site = Site(folder, program)
+        for path, octets in zip((site.book, site.book + "-wal"), files):
+            write(path, octets)
+        yield site
+
+
+def lost_of(contents, exports):
+    """How many entries are missing from the end of a state that the book had once; None if it never
+    had it.
+    """
+    states = enumerate(reversed(contents))
+    return next((lost for lost, it in states if not differences(it, exports)), None)
 
 
 def program():

@@ -6,23 +6,23 @@ again later what was answered long ago. Their clocks are off by up to an hour ei
 reports overtake each other.
 """
 
-import hashlib
 import heapq
-import hmac
 import itertools
-import os
 import select
 import socket
 import threading
 import time
 
+import served
 from promise_model import INTERIM, START, STOP, WRONG, Report, Session
 
-SECRET = b"testing123"
+SECRET = "testing123"
 DAY, HOUR = 86_400, 3600
+PLANS_SENT = [b"gold", b"gold", b"up", b"down", b"free", b"default", b"unknown", b""]
+PLANS_OLD = [b"gold", b"down", b"default"]
 SOURCES = [f"127.0.2.{number}" for number in range(1, 25)]
 GIB = 1 << 30
-# Names that many reports have, and names that a few have. Nobody logs in by one of these.
+# Names that many reports have, and names that a few have.
 NAMES = [f"user{number}" for number in range(40)]
 NAMES += ["Müller", "room 12", "o'neill", 'say "no"', "50%", "50%x", "a\\b", "&User-Name", "% {"]
 NAMES += ["UPPER", "=1+1", "+49 170", "@home", "-x", "a,b;c", "x" * 253, "$HOME", "`id`", "Łódź"]
@@ -42,19 +42,6 @@ OPEN = 250
 # Seconds until a report is sent again, at first and at most.
 FIRST, LAST = 1.0, 6.0
 TRIES = 2
-
-
-def attribute(kind, value):
-    return bytes([kind, len(value) + 2]) + value
-
-
-def number(value):
-    return value.to_bytes(4, "big")
-
-
-def signed(code, identifier, attributes):
-    head = bytes([code, identifier]) + (20 + len(attributes)).to_bytes(2, "big")
-    return head + hashlib.md5(head + bytes(16) + attributes + SECRET).digest() + attributes
 
 
 class Way:
@@ -105,10 +92,8 @@ class AccessServer:
             except OSError:
                 return
             sending, sent = self.used.get(reply[1], (None, None))
-            if sending is not None and reply[0] == 5:
-                digest = hashlib.md5(reply[:4] + sent[4:20] + reply[20:] + SECRET).digest()
-                if digest == reply[4:20]:
-                    yield sending
+            if sending is not None and served.is_response(reply, sent, SECRET):
+                yield sending
 
 
 class Sending:
@@ -124,25 +109,25 @@ class Sending:
         session = it.session
         delay = int(now) - int(it.moment)
         low = [it.input & 0xFFFFFFFF, it.output & 0xFFFFFFFF, it.seconds]
-        parts = [(40, number(it.status)), (44, session.identifier), (1, session.said)]
-        parts += [(kind, number(value)) for kind, value in zip((42, 43, 46), low)]
+        parts = [(40, it.status), (44, session.identifier), (1, session.said)]
+        parts += [(kind, value) for kind, value in zip((42, 43, 46), low)]
         parts += [(4, socket.inet_aton(session.source)), (32, session.nas())]
         if session.stamp:
             parts.append((25, session.stamp))
         if it.input >> 32 or it.output >> 32:
-            parts += [(52, number(it.input >> 32)), (53, number(it.output >> 32))]
+            parts += [(52, it.input >> 32), (53, it.output >> 32)]
         if it.status == STOP:
-            parts.append((49, number(1)))
+            parts.append((49, 1))
         if way.has_stamp:
-            parts.append((55, number(int(it.moment) + way.skew)))
+            parts.append((55, int(it.moment) + way.skew))
         if delay > 0 and (way.has_delay or delay > DAY) or way.says_no_delay and way.has_delay:
-            parts.append((41, number(max(delay, 0))))
+            parts.append((41, max(delay, 0)))
         else:
             delay = 0
         # What is there once is not there again.
         kinds = {kind for kind, _ in self.more}
         parts = [pair for pair in parts if pair[0] not in kinds] + self.more
-        return b"".join(attribute(*pair) for pair in parts), delay
+        return parts, delay
 
     def send(self, now):
         """Sends it: with its new delay if an identifier is free for that, else as it was. If it has
@@ -152,13 +137,13 @@ class Sending:
         if self.datagram is None or server.way.has_delay:
             identifier = server.free()
             if identifier is not None:
-                octets, self.delay = self.attributes(now)
-                self.datagram = signed(4, identifier, octets)
+                pairs, self.delay = self.attributes(now)
+                self.datagram = served.signed(identifier, pairs, SECRET)
                 server.used[identifier] = self, self.datagram
             elif self.datagram is None:
                 return False
         self.count += 1
-        self.report.sent.append((time.monotonic(), self.delay))
+        self.report.sent.append((now, self.delay))
         server.throw(self.datagram)
         return True
 
@@ -166,15 +151,13 @@ class Sending:
 def odd_attributes(rng):
     """Attributes that are allowed, and of which few devices know anything."""
     kinds = [
-        [(26, number(9999) + bytes([1, 6]) + rng.randbytes(4))],
-        [(26, number(14988) + bytes([1, 6]) + rng.randbytes(4))],
+        [(26, (9999).to_bytes(4, "big") + bytes([1, 6]) + rng.randbytes(4))],
+        [(26, (14988).to_bytes(4, "big") + bytes([1, 6]) + rng.randbytes(4))],
         [(223, rng.randbytes(rng.randrange(1, 20)))],
-        [(18, "Grüß %{User-Name} \"quoted\" \\".encode())],
-        [(87, b"%{Acct-Session-Id}\t\n'")],
+        [(18, "Grüß %{User-Name} \"quoted\" \\".encode())], [(87, b"%{Acct-Session-Id}\t\n'")],
         [(33, rng.randbytes(8)), (33, rng.randbytes(3))],
         [(8, rng.randbytes(4)), (31, b"02-00-00-" + rng.randbytes(3).hex("-").encode())],
-        [(30, b""), (31, b"x" * 253)],
-    ]
+        [(30, b""), (31, b"x" * 253)]]
     return [pair for pair in rng.choice(kinds) if pair[1]]
 
 
@@ -186,8 +169,8 @@ def extended(rng):
 
 def wrong(rng):
     """Attributes of a wrong form, by which nothing is charged."""
-    return rng.choice([[(42, b"\1\2")], [(43, b"\1\2\3")], [(52, number(1 << 31))],
-                       [(53, number(1 << 31))], [(8, b"\x0a\1\2")], [(49, b"\1")]])
+    return rng.choice([[(42, b"\1\2")], [(43, b"\1\2\3")], [(52, 1 << 31)],
+                       [(53, 1 << 31)], [(8, b"\x0a\1\2")], [(49, b"\1")]])
 
 
 class Devices(threading.Thread):
@@ -206,7 +189,7 @@ class Devices(threading.Thread):
         self.timers, self.order = [], itertools.count()
         self.open, self.old = [], []
         self.made = self.answered = self.datagrams = self.waiting = 0
-        self.slowest, self.times = 0.0, []
+        self.times = []
         self.is_making, self.is_over, self.fault = True, threading.Event(), None
 
     def run(self):
@@ -257,7 +240,7 @@ class Devices(threading.Thread):
             sending.is_done = True
             self.waiting -= 1
         if report.answered is None:
-            report.answered = time.monotonic()
+            report.answered = time.time()
             self.answered += 1
             self.times.append(report.answered - report.sent[0][0])
 
@@ -369,46 +352,7 @@ class Devices(threading.Thread):
             session.is_old = is_old
             octets = self.rng.randrange(9 << 20), self.rng.randrange(9 << 20)
             moment = time.time() - self.rng.randrange(youngest, oldest)
-            session.reports.append(
-                Report(session, STOP, octets, self.rng.randrange(9000), moment)
-            )
+            session.reports.append(Report(session, STOP, octets, self.rng.randrange(9000), moment))
             self.give(Sending(session.reports[0], self.of(session), [], None))
             self.old.append(session)
 
-
-PLANS_SENT = [b"gold", b"gold", b"up", b"down", b"free", b"default", b"unknown", b""]
-PLANS_OLD = [b"gold", b"down", b"default"]
-
-
-def logs_in(port, name, source):
-    """What FreeRADIUS answers to a login of a name, 2 if it may, 3 if not, None if nothing; and the
-    Class that it gives.
-    """
-    authenticator = os.urandom(16)
-    key = hashlib.md5(SECRET + authenticator).digest()
-    hidden = bytes(one ^ other for one, other in zip(b"right".ljust(16, b"\0"), key))
-    parts = attribute(1, name) + attribute(2, hidden)
-    zero = attribute(80, bytes(16))
-    head = bytes([1, 7]) + (20 + len(parts) + len(zero)).to_bytes(2, "big") + authenticator
-    proof = hmac.new(SECRET, head + parts + zero, hashlib.md5).digest()
-    with socket.socket(socket.AF_INET, socket.SOCK_DGRAM) as opened:
-        opened.bind((source, 0))
-        opened.settimeout(2)
-        try:
-            opened.connect(("127.0.0.1", port))
-            opened.send(head + parts + attribute(80, proof))
-            reply = opened.recv(4096)
-        except OSError:
-            return None, None
-    found, at = None, 20
-    while at < len(reply):
-        if reply[at] == 25:
-            found = reply[at + 2 : at + reply[at + 1]]
-        at += reply[at + 1]
-    return reply[0], found
-
-
-def leave_out_odd():
-    """Leaves out what is odd in reports, but for clocks."""
-    global ODD, RFC_6929, ODD_ID
-    ODD = RFC_6929 = ODD_ID = 0

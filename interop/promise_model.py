@@ -3,8 +3,7 @@
 It has no line in common with the program and its tools. A session is charged once: the price, by
 its plan, of the greatest total that was accepted. What was answered was accepted, what was sent and
 not answered may have been. Whose stamp a report has pays by its plan, whatever name the device says;
-without one the name pays by the plan of the client. A voucher and a code are credited once, to one
-account.
+without one the name pays by the plan of the client. A voucher is credited once.
 """
 
 import collections
@@ -17,17 +16,14 @@ BOTH, IN, OUT = "both", "in", "out"
 MEBIBYTE = 1 << 20
 # Of each Class: block, unit and what is counted.
 PLANS = {
-    b"gold": (MEBIBYTE, 10, BOTH),
-    b"up": (MEBIBYTE, 7, IN),
-    b"down": (65_536, 3, OUT),
-    b"free": (MEBIBYTE, 0, BOTH),
-    b"default": (1_000_000, 5, BOTH),
-}
+    b"gold": (MEBIBYTE, 10, BOTH), b"up": (MEBIBYTE, 7, IN), b"down": (65_536, 3, OUT),
+    b"free": (MEBIBYTE, 0, BOTH), b"default": (1_000_000, 5, BOTH)}
 # The plan of reports without a stamp, and what a stamp is made with.
 UNSTAMPED, STAMP_SECRET, LONGEST = b"free", b"stamp-secret-of-tests", 253
 SAID = set(b"ABCDEFGHIJKLMNOPQRSTUVWXYZabcdefghijklmnopqrstuvwxyz0123456789._-")
 START, STOP, INTERIM = 1, 2, 3
-# A report of a wrong form is never answered.
+# A report of a wrong form is never answered. If radacctd is away, it is kept without the attribute
+# that is wrong, and charged by the others.
 FINE, WRONG = "fine", "wrong"
 # By how many seconds the moment of a session may be another one in the book.
 EDGE = 5
@@ -45,6 +41,11 @@ def stamp_of(plan, account):
     text = coded(plan) + b";;" + coded(account) + b";"
     stamp = text + hmac.new(STAMP_SECRET, b"stamp;" + text, "md5").hexdigest().encode()
     return stamp if len(stamp) <= LONGEST else b""
+
+
+def shown(name):
+    """A name as the desk takes it."""
+    return "".join(chr(it) if 32 <= it < 127 and it not in b'%"\\' else f"%{it:02X}" for it in name)
 
 
 def device(nas):
@@ -67,13 +68,11 @@ class Report:
         return self.input, self.output
 
     def counted(self):
-        one, other = self.numbers()
-        return {BOTH: one + other, IN: one, OUT: other}[self.session.mode()]
+        return self.session.counted(*self.numbers())
 
-    def history(self, began):
-        sent = ", ".join(f"{at - began:.1f} (delay {delay})" for at, delay in self.sent)
-        answer = "never" if self.answered is None else f"{self.answered - began:.1f}"
-        return f"    {self.status} {self.numbers()}: sent {sent}; answered {answer}"
+    def __str__(self):
+        sent = ", ".join(f"{at:.1f} (delay {delay})" for at, delay in self.sent)
+        return f"{self.status} {self.numbers()}: sent {sent}; answered {self.answered}"
 
 
 class Session:
@@ -91,8 +90,9 @@ class Session:
     def of_plan(self):
         return PLANS.get(self.plan, PLANS[b"default"])
 
-    def mode(self):
-        return self.of_plan()[2]
+    def counted(self, one, other):
+        """What its plan counts of these octets."""
+        return {BOTH: one + other, IN: one, OUT: other}[self.of_plan()[2]]
 
     def price(self, counted):
         block, unit, _ = self.of_plan()
@@ -116,25 +116,17 @@ class Session:
         """How the book knows it: the device and its identifier, which no two sessions share."""
         return device(self.nas()), self.identifier
 
-    def history(self, began):
-        """What happened to it, as lines, and its moments."""
-        name = f"  session {self.key()} of {self.account!r}, plan {self.plan!r}"
-        lines = [name, *(it.history(began) for it in self.reports), f"  filed: {self.filed}"]
-        return lines, [at for it in self.reports for at, _ in it.sent]
+    def __str__(self):
+        name = f"session {self.key()} of {self.account!r}, plan {self.plan!r}, filed {self.filed}"
+        return "\n    ".join([name, *map(str, self.reports)])
 
 
 class Sale:
-    """A voucher that was sold, or a code that was redeemed, for an account."""
+    """A voucher that was sold to an account."""
 
     def __init__(self, number, account, total):
         self.number, self.account, self.total = number, account, total
-        # For whom it was answered, who asked, and what was said when.
-        self.answered, self.asked, self.said = set(), {account}, []
-
-    def history(self, began):
-        """What was said, as lines, and when."""
-        lines = [f"  {at - began:.1f} {' '.join(map(str, rest))}" for at, *rest in self.said]
-        return lines, [it[0] for it in self.said]
+        self.is_answered = False
 
 
 class Found:
@@ -167,19 +159,14 @@ class Found:
         found = collections.Counter()
         for row in [*self.sessions.values(), *self.again]:
             found[row["account"]] += row["charged"]
-        return found + collections.Counter(self.of_lines())
+        for (account, _), total in self.lines.items():
+            found[account] += total
+        return found
 
     def sold(self):
         """What each account has bought by these vouchers."""
         found = collections.Counter()
         for account, total in self.topups.values():
-            found[account] += total
-        return found
-
-    def of_lines(self):
-        """What each account is charged by lines."""
-        found = collections.Counter()
-        for (account, _), total in self.lines.items():
             found[account] += total
         return found
 
@@ -196,7 +183,7 @@ class Model:
     """All that was sent, and what it was answered."""
 
     def __init__(self):
-        self.sessions, self.sales, self.conflicts, self.intruders = [], {}, [], []
+        self.sessions, self.sales, self.conflicts = [], {}, []
         # What lies among the reports that are filed and belongs to nobody.
         self.strange = []
 
@@ -219,7 +206,6 @@ class Model:
         yield from balance_faults(found)
         yield from self.sale_faults(found.topups)
         yield from ((f"answered {it}", None) for it in self.conflicts)
-        yield from ((f"logged in: {it!r}", None) for it in self.intruders)
 
     def strangers(self, found, keys):
         """Sessions that nobody sent, or that are there twice."""
@@ -233,24 +219,21 @@ class Model:
         strange = set(topups) - set(self.sales)
         yield from ((f"a voucher that nobody sold: {it}", None) for it in strange)
         for sale in self.sales.values():
-            got = topups.get(sale.number)
-            if len(sale.answered) > 1:
-                yield f"answered to several: {sale.number} to {sale.answered}", sale
-            elif got is None and sale.answered:
-                yield f"lost: {sale.number} of {sale.answered}", sale
-            elif got is not None and (got[0] not in (sale.answered or sale.asked)
-                                      or got[1] != sale.total):
-                yield f"{sale.number}: {got}, sold {sale.total}", sale
+            got, wanted = topups.get(sale.number), (sale.account, sale.total)
+            if got is None and sale.is_answered:
+                yield f"lost: {sale.number} of {sale.account}", None
+            elif got not in (None, wanted):
+                yield f"{sale.number}: {got}, sold {wanted}", None
 
 
 def row_faults(session, row):
     """Of a session, and of its row in the book, which may be missing."""
     least, most = session.least(), session.most()
     if session.kind == WRONG:
-        if row is not None:
-            yield f"charged, and of a wrong form: {row}", session
-        elif least is not None:
+        if least is not None:
             yield "answered, and of a wrong form", session
+        elif row is not None:
+            yield from kept_faults(session, row)
     elif row is None:
         if least is not None:
             yield "answered, and not in the book", session
@@ -259,6 +242,15 @@ def row_faults(session, row):
     else:
         yield from charge_faults(session, row, least, most)
         yield from moment_faults(session, row)
+
+
+def kept_faults(session, row):
+    """Of a report of a wrong form that was kept: it is charged by what was right of it."""
+    got = int(row["input"]), int(row["output"])
+    said = {(one, other) for it in session.reports for one in (0, it.input)
+            for other in (0, it.output)}
+    if got not in said or row["charged"] != session.price(session.counted(*got)):
+        yield f"charged {row['charged']} for {got}, and of a wrong form", session
 
 
 def charge_faults(session, row, least, most):

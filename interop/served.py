@@ -1,5 +1,8 @@
 """The program serving a site on loopback, and the checks that tests share."""
 
+import contextlib
+import hashlib
+import http.client
 import json
 import os
 import signal
@@ -11,19 +14,19 @@ import books
 
 ROOT = os.path.dirname(os.path.dirname(os.path.abspath(__file__)))
 PROGRAM = os.environ.get("RADACCTD", os.path.join(ROOT, "bin", "radacctd"))
-SECRET = "testing-123"
-CLIENT_AND_KEYS = """
+SECRET, GUEST, CASHIER = "testing-123", "guest-key-0000001", "front-desk-000001"
+CLIENT_AND_KEYS = f"""
 [[client]]
 name = "nas-7"
 address = "127.0.0.1"
-secret = "testing-123"
+secret = "{SECRET}"
 
 [[key]]
-token = "guest-key-0000001"
+token = "{GUEST}"
 account = "room 12"
 
 [[key]]
-token = "front-desk-000001"
+token = "{CASHIER}"
 cashier = true
 """
 PLANS = """
@@ -37,8 +40,8 @@ class = "default"
 block = 1000000
 unit = 5
 """
-GUEST = "guest-key-0000001"
-CASHIER = "front-desk-000001"
+# Turns that no test sees the end of.
+FOREVER = 1 << 62
 
 failures = 0
 
@@ -54,44 +57,68 @@ def check(name, got, wanted):
         print("         got   ", got)
 
 
+def until(holds, seconds=60):
+    """Waits until something holds, and says whether it does."""
+    end = time.monotonic() + seconds
+    while not (is_so := holds()) and time.monotonic() < end:
+        time.sleep(0.05)
+    return is_so
+
+
 def free_port(kind):
     with socket.socket(socket.AF_INET, kind) as probe:
         probe.bind(("127.0.0.1", 0))
         return probe.getsockname()[1]
 
 
-def flip(path, at):
-    """Turns one bit of a file over."""
-    with open(path, "r+b") as file:
-        file.seek(at)
-        octet = file.read(1)[0]
-        file.seek(at)
-        file.write(bytes([octet ^ 4]))
+def attribute(kind, value):
+    """An attribute; a number is one of four octets."""
+    value = value if isinstance(value, bytes) else value.to_bytes(4, "big")
+    return bytes([kind, len(value) + 2]) + value
 
 
-def commits_of(log):
-    """The number of the last frame of each commit in a log that is whole, from 1."""
-    with open(log, "rb") as file:
-        octets = file.read()
-    size, salts = int.from_bytes(octets[8:12], "big"), octets[16:24]
-    ends = []
-    for number, at in enumerate(range(32, len(octets) - size - 23, 24 + size), 1):
-        if octets[at + 8 : at + 16] != salts:
-            break
-        if any(octets[at + 4 : at + 8]):
-            ends.append(number)
-    return ends
+def signed(identifier, attributes, secret=SECRET):
+    """An Accounting-Request (RFC 2866, 3) of these octets, or of pairs of a number and a value."""
+    if not isinstance(attributes, bytes):
+        attributes = b"".join(attribute(*it) for it in attributes)
+    head = bytes([4, identifier]) + (20 + len(attributes)).to_bytes(2, "big")
+    return head + hashlib.md5(head + bytes(16) + attributes + secret.encode()).digest() + attributes
+
+
+def is_response(reply, request, secret=SECRET):
+    """Whether it is the signed response to a request, by RFC 2866, 3."""
+    proof = hashlib.md5(reply[:4] + request[4:20] + reply[20:] + secret.encode()).digest()
+    return reply[:2] == bytes([5, request[1]]) and reply[4:20] == proof
+
+
+def ran(words, **how):
+    """How a command ended, and what it printed on both outputs."""
+    done = subprocess.run([str(it) for it in words], capture_output=True, text=True, **how)
+    return done.returncode, done.stdout, done.stderr
+
+
+def explained(words):
+    """How a command ended with --explain, and the lines that it told."""
+    status, _, errors = ran([*words, "--explain"])
+    return status, errors.splitlines()
+
+
+def made(folder, plans=PLANS):
+    """A server over a new book, in a folder that this makes."""
+    os.makedirs(folder)
+    server = Server(folder, plans)
+    server.init()
+    return server
 
 
 class Server:
     """The program, serving on loopback."""
 
-    def __init__(self, folder, plans=PLANS):
+    def __init__(self, folder, plans=PLANS, others=CLIENT_AND_KEYS):
         self.radius = free_port(socket.SOCK_DGRAM)
         self.desk = free_port(socket.SOCK_STREAM)
         self.config = os.path.join(folder, "radacctd.toml")
-        with open(self.config, "w", encoding="utf-8") as file:
-            file.write(CLIENT_AND_KEYS + plans)
+        write(self.config, others + plans)
         self.book = os.path.join(folder, "book")
         self.errors = os.path.join(folder, "errors")
         self.process = None
@@ -100,11 +127,13 @@ class Server:
         more = books.INIT if command == "init" else []
         return [PROGRAM, command, "--config", self.config, "--db", self.book, *more]
 
+    def told(self, command, *more, **how):
+        """How a command over the book ended, and what it printed."""
+        return ran([*self.words(command), *more], **how)
+
     def init(self):
-        done = subprocess.run(self.words("init"), capture_output=True, text=True)
-        check("init makes a book", (done.returncode, done.stdout), (0, "book made\n"))
-        done = subprocess.run(self.words("init"), capture_output=True, text=True)
-        check("and makes none over it", (done.returncode, done.stderr), (3, "db: NotABook\n"))
+        check("init makes a book", self.told("init")[:2], (0, "book made\n"))
+        check("and makes none over it", self.told("init"), (3, "", "db: NotABook\n"))
 
     def list_plans(self, folder):
         """Writes the plans in force where the pages read them, as the unit does before a start."""
@@ -112,65 +141,37 @@ class Server:
             subprocess.run([*self.words("plans"), "--list"], stdout=file, check=True)
 
     def export(self, what):
-        return subprocess.run(
-            self.words("export") + [what], capture_output=True, text=True
-        ).stdout.splitlines()
+        return self.told("export", what)[1].splitlines()
 
     def sqlite(self, text):
-        return subprocess.run(
-            [*books.words(self.book), text], capture_output=True, text=True
-        ).stdout.split()
+        return ran([*books.words(self.book), text])[1].split()
 
-    def roots(self):
-        """The first page of each table of the book."""
-        rows = self.sqlite("SELECT name, rootpage FROM sqlite_schema WHERE type = 'table'")
-        return {name: int(page) for name, page in (row.split(",") for row in rows)}
+    def serve(self):
+        """The words that serve at this server's ports."""
+        return [*self.words("serve"), "--radius-port", str(self.radius),
+                "--desk-port", str(self.desk)]
 
-    def written(self):
-        """The pages that the last commit wrote, as the log of the book has them."""
-        with open(self.book + "-wal", "rb") as file:
-            log = file.read()
-        size, salt = int.from_bytes(log[8:12], "big"), log[16:24]
-        last, pages = set(), set()
-        for at in range(32, len(log) - size - 23, 24 + size):
-            frame = log[at : at + 24]
-            if frame[8:16] != salt:
-                break
-            pages.add(int.from_bytes(frame[:4], "big"))
-            # The last frame of a commit tells how many pages the book then has.
-            if any(frame[4:8]):
-                last, pages = pages, set()
-        return last
-
-    def start(self, turns, more=(), stderr=None):
+    def start(self, turns, more=(), stderr=None, **how):
         """Serves; standard error goes to a file of its own, unless another is given."""
         with open(self.errors, "wb") as errors:
             self.process = subprocess.Popen(
-                self.words("serve")
-                + [
-                    "--radius-port",
-                    str(self.radius),
-                    "--desk-port",
-                    str(self.desk),
-                    "--turns",
-                    str(turns),
-                    *more,
-                ],
-                stdout=subprocess.PIPE,
-                stderr=errors if stderr is None else stderr,
-                text=True,
-            )
+                [*self.serve(), "--turns", str(turns), *more], stdout=subprocess.PIPE, text=True,
+                stderr=errors if stderr is None else stderr, **how)
         check("the server says that it serves", self.process.stdout.readline(), "serving\n")
 
-    def told(self, lines, seconds=20):
+    @contextlib.contextmanager
+    def serving(self, *more):
+        """Serves with these words, and is killed at last."""
+        self.start(FOREVER, more)
+        try:
+            yield
+        finally:
+            self.kill()
+
+    def printed(self, lines, seconds=20):
         """What it has printed on standard error, once these are as many lines or time is over."""
-        for _ in range(seconds * 50):
-            with open(self.errors, encoding="utf-8") as file:
-                told = file.read()
-            if told.count("\n") >= lines:
-                break
-            time.sleep(0.02)
-        return told
+        until(lambda: text_of(self.errors).count("\n") >= lines, seconds)
+        return text_of(self.errors)
 
     def kill(self):
         self.process.send_signal(signal.SIGKILL)
@@ -186,42 +187,30 @@ class Server:
 
         It waits so long for a reply. A wrong secret gets none, so that is one second.
         """
-        if secret != SECRET:
-            seconds = 1
-        done = subprocess.run(
-            [
-                "radclient",
-                "-r",
-                str(retries),
-                "-t",
-                str(seconds),
-                f"127.0.0.1:{self.radius}",
-                "acct",
-                secret,
-            ],
-            input="\n".join(attributes) + "\n",
-            capture_output=True,
-            text=True,
-        )
-        return "Received Accounting-Response" in done.stdout and done.returncode == 0
+        seconds = seconds if secret == SECRET else 1
+        words = ["radclient", "-r", retries, "-t", seconds, f"127.0.0.1:{self.radius}", "acct"]
+        status, said, _ = ran([*words, secret], input="\n".join(attributes) + "\n")
+        return "Received Accounting-Response" in said and status == 0
 
     def curl(self, method, path, key=None, body=None):
         """The status and the body that curl got."""
-        words = [
-            "curl",
-            "-s",
-            "-X",
-            method,
-            "-w",
-            "\n%{http_code}",
-            f"http://127.0.0.1:{self.desk}{path}",
-        ]
-        if key is not None:
-            words += ["-H", f"Desk-Key: {key}"]
-        if body is not None:
-            words += ["-H", "Content-Type: application/json", "-d", body]
-        text, status = subprocess.run(words, capture_output=True, text=True).stdout.rsplit("\n", 1)
+        words = ["curl", "-s", "-X", method, "-w", "\n%{http_code}"]
+        words += ["-H", f"Desk-Key: {key}"] if key else []
+        words += ["-H", "Content-Type: application/json", "-d", body] if body else []
+        text, status = ran([*words, f"http://127.0.0.1:{self.desk}{path}"])[1].rsplit("\n", 1)
         return int(status), text
+
+    def ask(self, method, path, key, body=None):
+        """The status and the JSON of an answer, by a connection of its own."""
+        caller = http.client.HTTPConnection("127.0.0.1", self.desk, timeout=10)
+        caller.request(method, path, body, {"Desk-Key": key})
+        response = caller.getresponse()
+        return response.status, json.loads(response.read())
+
+    def sell(self, number, total, account="room%2012"):
+        """The answer of the desk to a cashier who sells."""
+        body = json.dumps({"account": account, "sum": total, "voucher": number})
+        return self.curl("POST", "/topups", CASHIER, body)
 
     def balance(self):
         return json.loads(self.curl("GET", "/me/balance", GUEST)[1])["balance"]
@@ -229,36 +218,23 @@ class Server:
 
 def report(status, session, octets, more=(), plan="gold"):
     return [
-        f"Acct-Status-Type = {status}",
-        f'Acct-Session-Id = "{session}"',
-        'User-Name = "room 12"',
-        f'Class = "{plan}"',
-        f"Acct-Input-Octets = {octets & 0xffffffff}",
-        f"Acct-Input-Gigawords = {octets >> 32}",
-        "NAS-IP-Address = 127.0.0.1",
-        'NAS-Identifier = "nas-7"',
-        *more,
-    ]
+        f"Acct-Status-Type = {status}", f'Acct-Session-Id = "{session}"', 'User-Name = "room 12"',
+        f'Class = "{plan}"', f"Acct-Input-Octets = {octets & 0xffffffff}",
+        f"Acct-Input-Gigawords = {octets >> 32}", "NAS-IP-Address = 127.0.0.1",
+        'NAS-Identifier = "nas-7"', *more]
 
 
-def told(server, command, *more):
-    """How a command over the book ended, and what it printed."""
-    done = subprocess.run([*server.words(command), *more], capture_output=True, text=True)
-    return done.returncode, done.stdout, done.stderr
+def plan(name, count="both", block=1 << 20, unit=10):
+    """The lines of a plan in a configuration."""
+    head = f'\n[[plan]]\nclass = "{name}"\nblock = {block}\nunit = {unit}\n'
+    return f'{head}count = "{count}"\n'
 
 
-def sums(folder):
-    """What is in a folder: each name with where it leads, or with its octets."""
-    found = {}
-    for it in os.scandir(folder):
-        if it.is_symlink():
-            found[it.name] = os.readlink(it.path)
-        elif it.is_file():
-            with open(it.path, "rb") as file:
-                found[it.name] = file.read()
-        else:
-            found[it.name] = "no file"
-    return found
+def text_of(path):
+    """The text of a file, or none."""
+    with contextlib.suppress(OSError), open(path, encoding="utf-8", errors="replace") as file:
+        return file.read()
+    return ""
 
 
 def write(path, text):

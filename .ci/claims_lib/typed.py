@@ -18,7 +18,7 @@ BY_HAND = {
     "FRONTDESK": "a clerk's page: no command",
     "README": "bin/try and bin/build run it",
     "SIZING": "it changes the kernel's settings",
-    "TROUBLE": "each symptom is another; interop/telling makes what it explains",
+    "TROUBLE": "each symptom is another; crates/acct_program_tests makes what is explained",
     "VOUCHERS": "site/desk/live.py gives its commands; interop/queries runs that of a month",
 }
 
