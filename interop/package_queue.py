@@ -79,7 +79,7 @@ def upgraded(box, folder):
     status, said = box.run(f"radacctl setup --yes {start_site.ANSWERS}")
     check("the set-up brings the rest to this version", (status, said[-300:] if status else ""),
           (0, ""))
-    check("and the doctor finds nothing", start_site.is_sound(box), [])
+    check("and the check finds nothing", start_site.is_sound(box), [])
     removed(box)
 
 

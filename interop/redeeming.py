@@ -5,9 +5,7 @@ import re
 import sys
 import tempfile
 
-sys.path.insert(0, os.path.join(os.path.dirname(os.path.dirname(os.path.abspath(__file__))), "etc"))
-
-import radacctl  # it finds the kit
+import kit  # radacctd_site is found by it
 from radacctd_site.core import live  # for who imports this
 
 

@@ -34,12 +34,6 @@ def prepare(box, folder):
     box.write(ANSWERS, answers(box), 0o600)
 
 
-def prepare_operators(box, folder):
-    """The same for a site that has operators."""
-    prepare(box, folder)
-    box.must(f"sed -i 's/^# operators/operators/' {ANSWERS}")
-
-
 ROLE = """CREATE ROLE radius LOGIN PASSWORD '{}';
 CREATE DATABASE radius OWNER radius;
 """
@@ -80,18 +74,18 @@ def set_up(box, path=ANSWERS, trace=None):
     return time.monotonic() - begun, said
 
 
-def doctor(box, *words):
-    """The status and the lines of the doctor."""
-    status, said = box.run(" ".join(["radacctl doctor", *words]))
+def faults(box, *words):
+    """The status and the lines of the check."""
+    status, said = box.run(" ".join(["radacctl setup --check", *words]))
     return status, said.splitlines()
 
 
 def is_sound(box, seconds=90):
-    """Waits until the doctor finds nothing; else the lines that it last printed."""
+    """Waits until the check finds nothing; else the lines that it last printed."""
     end = time.monotonic() + seconds
     while True:
-        status, lines = doctor(box, "--quiet")
-        if status == 0 and not lines:
+        status, lines = faults(box)
+        if status == 0:
             return []
         if time.monotonic() > end:
             return lines or [f"status {status}"]

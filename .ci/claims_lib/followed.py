@@ -14,7 +14,7 @@ COMMAND = re.compile(r"^\s*(?:systemctl|radacctd|apt|apt-get|sqlite3|nginx|freer
 # A path of the repository in a command: on these pages it is meant so.
 FROM_REPOSITORY = {"README": "A first run, Install", "INSTALL": "From the repository"}
 OF_REPOSITORY = re.compile(r"^\s*(?:sudo )?((?:bin|interop|bench|crates|\.ci)/[\w.-]+)", re.M)
-# A secret or a key that a page shows, and those that the program and the doctor warn of.
+# A secret or a key that a page shows, and those that the program and the check warn of.
 SHOWN = re.compile(r"(?:secret|token) = \"?([^\s\"]+)|Desk-Key: ([\w-]+)")
 PLAIN = re.compile(r"change-me\b.*|\.\.\.|[A-Z]+")
 

@@ -13,13 +13,13 @@ the function that gives the lines, whose links are those of a page of docs.
 import os
 import re
 
-from claims_lib import configured, contracts, doctor, failures, faults, history, made_tables
+from claims_lib import check, configured, contracts, failures, faults, history, made_tables
 from claims_lib import notions, reading, statuses, tables, typed
 from claims_lib.tree import ROOT, text_of
 
 PART = re.compile(r"^<!-- made: ([^\n]+?) -->\n(.*?)^<!-- end -->$", re.M | re.S)
 MAKERS = {}
-for source in (configured, contracts, doctor, failures, faults, history, made_tables, notions,
+for source in (check, configured, contracts, failures, faults, history, made_tables, notions,
                reading, statuses, tables, typed):
     MAKERS.update(source.MAKERS)
 HOW = "make it again: .ci/claims --write"

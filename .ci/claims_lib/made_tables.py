@@ -23,8 +23,7 @@ def commands(_checker):
 
 # Where each command of radacctl is explained.
 EXPLAINED = {
-    "setup": "[START](START.md)",
-    "doctor": "[DOCTOR](DOCTOR.md)",
+    "setup": "[START](START.md), [FAULTS](FAULTS.md)",
     "sell": "[VOUCHERS](VOUCHERS.md#credit-a-file-of-vouchers)",
     "voucher": "[DESK](DESK.md#printed-vouchers)",
     "person": "[DESK](DESK.md#put-a-proxy-in-front)",

@@ -18,7 +18,7 @@ from claims_lib.style import made_lines, plain
 from claims_lib.tree import ROOT, text_of
 
 OPERATORS = (
-    "README ACCESS-SERVERS DESK DOCTOR FORWARD FRONTDESK GONE INSTALL"
+    "README ACCESS-SERVERS DESK FAULTS FORWARD FRONTDESK GONE INSTALL"
     " SITE SIZING START TROUBLE VOUCHERS"
 ).split()
 # Pages that speak of contracts themselves, or of work on the repository.

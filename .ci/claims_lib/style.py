@@ -14,7 +14,7 @@ MOST = {
     "README.md": 650,
     "docs/ACCESS-SERVERS.md": 885,
     "docs/DESK.md": 1325,
-    "docs/DOCTOR.md": 200,
+    "docs/FAULTS.md": 265,
     "docs/FORWARD.md": 1033,
     "docs/FRONTDESK.md": 660,
     "docs/GONE.md": 1200,

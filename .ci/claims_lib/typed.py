@@ -4,16 +4,16 @@ person, and why. docs/proofs/FIGURES.md has the table.
 
 # The scripts that run a page's commands, by its name.
 RUN = {
-    "DESK": "interop/desk_page.py",
     "INSTALL": "interop/package",
     "START": "interop/start",
 }
 # Pages whose commands a person types, and why no script does.
 BY_HAND = {
+    "DESK": "interop/start and site/desk/live.py use what it explains",
     "ACCESS-SERVERS": "each setting is of another maker's device: interop/access-servers",
     "FORWARD": "interop/forward does the same over its own books",
     "SITE": "interop/systemd types the steps of a change, and no script those of a plan",
-    "DOCTOR": "interop/doctor breaks a site in each way of the page",
+    "FAULTS": "site/setup/live.py breaks a site in each way of the page",
     "GONE": "each way needs damage of its own; interop/flips and interop/telling make some of it",
     "FRONTDESK": "a clerk's page: no command",
     "README": "bin/try and bin/build run it",

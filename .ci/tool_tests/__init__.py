@@ -9,12 +9,9 @@ import unittest
 
 sys.dont_write_bytecode = True
 ROOT = os.path.dirname(os.path.dirname(os.path.dirname(os.path.abspath(__file__))))
-sys.path.insert(0, os.path.join(ROOT, "etc"))
+sys.path.insert(0, os.path.join(ROOT, "interop"))
 
-from radacctl.setup import steps
-
-# Others may test the same on this machine now.
-steps.TRIAL += f"-{os.getpid()}"
+import kit  # radacctd_site is found by it
 
 
 def script(*path):

@@ -11,7 +11,6 @@ from tool_tests import ROOT
 
 sys.path.insert(0, os.path.join(ROOT, "interop"))
 
-import desk_page
 import page_steps
 import service
 
@@ -49,14 +48,6 @@ class Followed(unittest.TestCase):
         lines = re.findall(r"(?m)^ {4}(\S.*)$", part)
         self.assertEqual(first_words(lines), ["cd", "cp", "editor", "radacctd", "mv", "journalctl"])
 
-    def test_desk(self):
-        store = desk_page.steps_of("## What sells", "## Put a proxy in front")
-        self.assertIn("systemctl enable --now radacctd-minute.timer", store)
-        proxy = desk_page.steps_of("## Put a proxy in front", "| Page | For |")
-        self.assertEqual(proxy[0].split()[:2], ["apt", "install"])
-        for line in ("radacctl person put anna", "systemctl enable --now radacctd-site.socket"):
-            self.assertIn(line, proxy)
-
     def test_install(self):
         start = service.commands("The first start")
         self.assertEqual(first_words(start)[:3], ["install", "radacctd", "radacctd"])
@@ -71,7 +62,7 @@ class Followed(unittest.TestCase):
         text = text[text.index("## A hotel") : text.index("## A second machine")]
         lines = re.findall(r"(?m)^ {7}(\S.*)$", text)
         self.assertEqual(first_words(lines)[:2], ["apt", "radacctl"])
-        self.assertEqual(lines[-1], "radacctl doctor")
+        self.assertEqual(lines[-1], "radacctl setup --check")
 
 
 if __name__ == "__main__":

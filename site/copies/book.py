@@ -7,11 +7,7 @@ import struct
 import subprocess
 import time
 
-from radacctd_site.core import Failed
-from radacctd_site.copies import owners
-from radacctl import site
-from radacctl.doctor import look
-from radacctl.setup import steps
+from radacctd_site.core import Failed, files, machine, places
 
 UNIT = "radacctd.service"
 # While this is there, the server was stopped for a copy: the unit starts it again after a kill.
@@ -23,16 +19,16 @@ LOCK = struct.pack("hhqqi", fcntl.F_RDLCK, os.SEEK_SET, 1 << 30, 512, 0)
 @contextlib.contextmanager
 def stopped():
     """Whether the server ran: then it stands still meanwhile."""
-    if not look.is_active(UNIT):
+    if not machine.is_active(UNIT):
         yield False
         return
-    steps.refuse_if_away()
+    machine.refuse_if_away()
     open(STOPPED, "w").close()
     try:
-        steps.given(["systemctl", "stop", UNIT])
+        machine.given(["systemctl", "stop", UNIT])
         yield True
     finally:
-        steps.given(["systemctl", "start", UNIT])
+        machine.given(["systemctl", "start", UNIT])
         os.remove(STOPPED)
 
 
@@ -41,21 +37,21 @@ def copy(folder):
     server stood still, or None.
     """
     begun = time.monotonic()
-    with stopped() as is_stopped, owners.opened(site.BOOK, site.USER) as book:
+    with stopped() as is_stopped, files.of_user(places.BOOK, places.SERVER_USER) as book:
         try:
             fcntl.fcntl(book, fcntl.F_OFD_SETLK, LOCK)
         except OSError:
-            raise Failed(f"a process has {site.BOOK} open, and is not {UNIT}: stop it") from None
+            raise Failed(f"a process has {places.BOOK} open, and is not {UNIT}: stop it") from None
         with contextlib.ExitStack() as stack:
             found = {"book": book}
             with contextlib.suppress(FileNotFoundError):
-                log = stack.enter_context(owners.opened(f"{site.BOOK}-wal", site.USER))
+                log = stack.enter_context(files.of_user(f"{places.BOOK}-wal", places.SERVER_USER))
                 found["book-wal"] = log
             before = marks(found)
             for name, file in found.items():
                 clone(file, f"{folder}/{name}")
             if marks(found) != before:
-                raise Failed(f"{site.BOOK} was written meanwhile, and not by {UNIT}")
+                raise Failed(f"{places.BOOK} was written meanwhile, and not by {UNIT}")
     return time.monotonic() - begun if is_stopped else None
 
 

@@ -8,10 +8,8 @@ checked. `radacctl copy` alone makes one now, by radacctd-copy.service.
 
 import time
 
-from radacctd_site.core import Failed
+from radacctd_site.core import Failed, machine
 from radacctd_site.copies import kept, places, taking
-from radacctl.doctor import look
-from radacctl.setup import steps
 
 UNIT = "radacctd-copy.service"
 
@@ -27,8 +25,8 @@ def arguments(it):
 def now():
     """By the unit, which starts the server again also if this is killed."""
     begun = time.strftime("%F %T")
-    status = look.run("systemctl", "start", UNIT, seconds=86400)[0]
-    print(steps.given(["journalctl", "-u", UNIT, "-t", "radacctl", "--since", begun, "-o", "cat"]),
+    status = machine.run("systemctl", "start", UNIT, seconds=86400)[0]
+    print(machine.given(["journalctl", "-u", UNIT, "-t", "radacctl", "--since", begun, "-o", "cat"]),
           end="")
     if status:
         raise Failed(f"{UNIT} has failed")

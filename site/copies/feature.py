@@ -1,4 +1,4 @@
-"""What copies add: two commands, the night's copy, and what the doctor looks at."""
+"""What copies add: two commands, the night's units, and the faults that they name."""
 
 COMMANDS = {
     "copy": ("copies the site, lists and checks its copies", "copy_command"),
@@ -6,4 +6,7 @@ COMMANDS = {
 }
 EACH_NIGHT = "copy_command:now"
 SETUP, LOOKS = "setup", "looks"
-PARTS = [("has_copies", "", "radacctd-night.timer", ("/etc/radacctd.toml",))]
+WARNINGS = {
+    "copy-old": "the last copy is older than 36 hours, or there is none",
+    "copy-bad": "a night's copy was refused, or lacks its sums",
+}

@@ -5,13 +5,11 @@ import hashlib
 import json
 import os
 import re
+import sqlite3
 import tempfile
 
-from radacctd_site.core import Failed, told
+from radacctd_site.core import Failed, book as of_core, machine, places as of_kit, told
 from radacctd_site.copies import owners, places
-from radacctl import files, site
-from radacctl.doctor import look
-from radacctl.setup import alone, steps
 
 LIST, SUMS, FILES, DUMP = "copy.json", "SHA256SUMS", "files", "radius.sql"
 # The folder of a book that is looked at begins so.
@@ -68,10 +66,11 @@ def listed(folder):
 
 def plans_of(book):
     """Each plan that a book keeps, as a configuration has it."""
-    with told(Unsound, "the plans of the book cannot be read: ", OSError, ValueError):
-        return [alone.block("plan", {"class": name.decode("utf-8"), "block": block, "unit": unit,
-                                     "count": COUNTS[mode]})
-                for name, block, unit, mode in files.rows(book, PLANS, is_still=True)]
+    with told(Unsound, "the plans of the book cannot be read: ", sqlite3.Error, ValueError), \
+            contextlib.closing(sqlite3.connect(f"file:{book}?mode=ro&immutable=1", uri=True)) as db:
+        return [of_core.block("plan", {"class": name.decode("utf-8"), "block": block, "unit": unit,
+                                       "count": COUNTS[mode]})
+                for name, block, unit, mode in db.execute(PLANS)]
 
 
 @contextlib.contextmanager
@@ -82,7 +81,7 @@ def looked_at(folder):
     with tempfile.TemporaryDirectory(dir=places.FOLDER, prefix=LOOK) as place:
         for it in ("book", "book-wal"):
             if os.path.exists(f"{folder}/{it}"):
-                steps.given(["cp", "--reflink=auto", f"{folder}/{it}", place])
+                machine.given(["cp", "--reflink=auto", f"{folder}/{it}", place])
         with open(f"{place}/plans.toml", "w", encoding="utf-8") as file:
             file.writelines(plans_of(f"{place}/book"))
         yield ["--config", f"{place}/plans.toml", "--db", f"{place}/book"]
@@ -94,9 +93,9 @@ def check(folder):
     """
     found = listed(folder)
     with looked_at(folder) as book:
-        status, said = look.run(site.part("radacctd"), "check", *book, "--audit", seconds=86400)
+        status, said = machine.run(of_kit.part("radacctd"), "check", *book, "--audit", seconds=86400)
         if status:
-            raise Unsound(f"{folder}: the book is not sound: {look.last_line(said)}")
+            raise Unsound(f"{folder}: the book is not sound: {machine.last_line(said)}")
     for path in found["stores"]:
         owners.check_store(f"{folder}/{FILES}{path}")
     return found

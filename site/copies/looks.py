@@ -1,16 +1,16 @@
-"""The night's copies: how old the last one is, and whether it was refused."""
+"""What no step sees of the night's copies: how old the last one is, and whether it was refused."""
 
 import os
 import time
 
+from radacctd_site.core.steps import Fault
 from radacctd_site.copies import kept, places
-from radacctl.doctor.faults import Fault
 
 OLDEST = 36 * 3600
 NOW = "radacctl copy"
 
 
-def look_at(_):
+def look_at(*_):
     good, refused = places.names(), places.names(places.REFUSED)
     if refused and (not good or refused[-1].removeprefix(places.REFUSED) > good[-1]):
         yield Fault("copy-bad", f"{places.FOLDER}/{refused[-1]} was refused: the book may be damaged",

@@ -8,8 +8,7 @@ import pwd
 import shutil
 import subprocess
 
-from radacctd_site.core import Failed
-from radacctl import files
+from radacctd_site.core import Failed, files
 
 PROGRAM = os.path.join(os.path.dirname(os.path.realpath(__file__)), "as_owner.py")
 PATH = {"PATH": "/usr/bin:/bin", "LC_ALL": "C.UTF-8"}
@@ -62,20 +61,4 @@ def put(path, user, date, parts, rights):
             with open(source, "rb") as file:
                 shutil.copyfileobj(file, it.stdin)
     for end in parts:
-        give(path + end, user, *rights)
-
-
-def give(path, user, group, mode):
-    """Gives a user's file its group and mode, by its handle."""
-    with opened(path, user) as file:
-        os.fchown(file.fileno(), -1, group)
-        os.fchmod(file.fileno(), mode)
-
-
-@contextlib.contextmanager
-def opened(path, user):
-    """A file of a user's. A link, a pipe, another user's file or a second name of one is refused."""
-    with files.opened(path) as (file, status):
-        if status.st_uid != number(user) or status.st_nlink != 1:
-            raise Failed(f"{path} is not a file of {user} alone")
-        yield file
+        files.give(path + end, user, *rights)

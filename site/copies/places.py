@@ -4,11 +4,9 @@ import glob
 import os
 import re
 
-from radacctl import site
-from radacctl.setup import alone
 from radacctd_site.core import places
 
-FOLDER = site.BACKUPS
+FOLDER = places.BACKUPS
 EXPORTS = f"{FOLDER}/exports"
 NAME = re.compile(r"site-\d{4}-\d{2}-\d{2}(?:\.\d{6})?")
 # A copy that its check refused.
@@ -20,7 +18,7 @@ STORES = {
     f"{places.USUAL}/site.db": (places.USER, 0o711),
     f"{places.USUAL}/users.db": (places.USER, 0o711),
     # When logins with a validity were first used.
-    "/var/lib/radacctd-front/first.db": (site.RADIUS_USER, 0o700),
+    "/var/lib/radacctd-front/first.db": (places.RADIUS_USER, 0o700),
 }
 # What lies in folders that only root may write: configuration, secrets, certificates, notes of the
 # set-up.
@@ -33,7 +31,7 @@ ROOTS = [
     "/etc/ssl/radacctd.pem",
     "/etc/ssl/private/radacctd.key",
     "/etc/letsencrypt",
-    alone.NOTES,
+    places.NOTES,
 ]
 
 

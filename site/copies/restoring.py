@@ -1,20 +1,18 @@
 """Puts a copy back. What is there stays beside it, and the set-up starts and tries the rest."""
 
-import argparse
+import contextlib
 import json
 import os
 import stat
+import subprocess
 import time
 
-from radacctd_site.core import Failed
+from radacctd_site.core import Failed, files, machine, places as of_kit, steps
+from radacctd_site.core.steps import File, Folder
 from radacctd_site.copies import kept, owners, places
-from radacctl import files, site
-from radacctl.commands import setup
-from radacctl.setup import alone, answers, steps
-from radacctl.setup.steps import File, Folder, Link
 
-# What the set-up was told.
-ANSWERS = f"{alone.NOTES}/answers.json"
+# What the set-up was told, with the packages that it installed; and what only one has at a time.
+ANSWERS, LOCK = f"{of_kit.NOTES}/answers.json", "/run/radacctd-setup.lock"
 
 
 def restore(folder, replaces, is_book_alone=False):
@@ -25,32 +23,31 @@ def restore(folder, replaces, is_book_alone=False):
     print("checking the copy, which takes as long as two starts", flush=True)
     found = kept.check(folder)
     refuse_if_there(replaces)
-    steps.refuse_if_away()
-    lock = files.open_lock(setup.LOCK)
+    machine.refuse_if_away()
+    lock = files.open_lock(LOCK)
     if not files.is_locked(lock):
         raise Failed("a set-up is going on")
     date = time.strftime("%Y%m%d-%H%M%S")
     when = time.strftime("%F %T", time.localtime(found["taken"]))
-    lost = f"{site.BOOK} is as it was on {when}. What came after that is lost"
+    lost = f"{of_kit.BOOK} is as it was on {when}. What came after that is lost"
     if is_book_alone:
-        steps.given(["systemctl", "stop", "radacctd.service"])
+        machine.given(["systemctl", "stop", "radacctd.service"])
         put_book(folder, date)
         print(f"{lost}. Now: radacctd plans, and systemctl start radacctd")
         return 0
-    steps.given(["systemctl", "stop", "radacctd*"])
-    wanted = answers_of(folder)
-    prepare(wanted)
+    machine.given(["systemctl", "stop", "radacctd*"])
+    packages = packages_of(folder)
+    prepare(packages)
     put_roots(folder, found)
     put_stores(folder, found, date)
     put_book(folder, date)
     print(lost, flush=True)
-    steps.given(["systemctl", "daemon-reload"])
-    if wanted is None:
+    machine.given(["systemctl", "daemon-reload"])
+    if packages is None:
         print("no set-up made this site: start its units, and try it")
         return 0
-    words = argparse.Namespace(yes=True, dry_run=False, new_book=False)
-    setup.do(words, wanted)
-    return 0
+    os.close(lock)
+    return subprocess.run([of_kit.RADACCTL, "setup", "--yes"]).returncode
 
 
 def need_root_only(folder):
@@ -71,33 +68,30 @@ def need_root_only(folder):
 def refuse_if_there(replaces):
     """A book that is there is replaced only if its date is given."""
     try:
-        found = [os.lstat(it).st_mtime for it in (site.BOOK, f"{site.BOOK}-wal")
+        found = [os.lstat(it).st_mtime for it in (of_kit.BOOK, f"{of_kit.BOOK}-wal")
                  if os.path.lexists(it)]
     except FileNotFoundError:
         found = []
     date = time.strftime("%F", time.localtime(max(found))) if found else None
     if date != replaces:
-        there = f"{site.BOOK} is there, last written on {date}"
+        there = f"{of_kit.BOOK} is there, last written on {date}"
         raise Failed(f"{there}: to replace it, and keep it beside, give --replaces {date}" if date
-                     else f"{site.BOOK} is not there: leave --replaces away")
+                     else f"{of_kit.BOOK} is not there: leave --replaces away")
 
 
-def answers_of(folder):
+def packages_of(folder):
+    """Debian's packages that the set-up installed, or None if no set-up made the site."""
     try:
         with open(f"{folder}/{kept.FILES}{ANSWERS}", encoding="utf-8") as file:
-            return answers.Answers(json.load(file))
+            return json.load(file)["packages"]
     except FileNotFoundError:
         return None
 
 
-def prepare(wanted):
+def prepare(packages):
     """The users and groups that have the files."""
-    if wanted is not None:
-        packages = alone.packages(setup.packages_of(wanted))
-        if not packages.is_done():
-            print(f"{packages.text()} ..", flush=True)
-            packages.do()
-    steps.given(["systemd-sysusers"])
+    steps.packages(packages or []).finish()
+    machine.given(["systemd-sysusers"])
 
 
 def put_roots(folder, found):
@@ -107,11 +101,20 @@ def put_roots(folder, found):
     for path, (owner, group, mode) in found["files"].items():
         with open(f"{folder}/{kept.FILES}{path}", "rb") as file:
             text = file.read().decode("utf-8", "surrogateescape")
-        step = File(path, lambda _, it=text: it, mode, owner, group)
-        if not step.is_done():
+        step = File(path, text, mode, group, owner)
+        if not step.holds():
             step.do()
     for path, target in found["links"].items():
-        Link(path, target).do()
+        link(path, target)
+
+
+def link(path, target):
+    with steps.placed(path) as (folder, name):
+        with contextlib.suppress(FileNotFoundError):
+            if stat.S_ISREG(os.stat(name, dir_fd=folder, follow_symlinks=False).st_mode):
+                steps.keep(folder, name)
+            os.remove(name, dir_fd=folder)
+        os.symlink(target, name, dir_fd=folder)
 
 
 def put_stores(folder, found, date):
@@ -123,7 +126,8 @@ def put_stores(folder, found, date):
 
 
 def put_book(folder, date):
-    Folder(site.STATE, 0o700, site.USER, site.USER).do()
+    Folder(of_kit.STATE, 0o700, of_kit.SERVER_USER, of_kit.SERVER_USER).do()
     parts = {"": f"{folder}/book", "-wal": f"{folder}/book-wal"}
     parts = {end: it for end, it in parts.items() if os.path.exists(it)}
-    owners.put(site.BOOK, site.USER, date, parts, (steps.ids(site.USER, site.USER)[1], 0o600))
+    owners.put(of_kit.BOOK, of_kit.SERVER_USER, date, parts,
+               (steps.ids(of_kit.SERVER_USER, of_kit.SERVER_USER)[1], 0o600))

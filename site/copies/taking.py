@@ -12,11 +12,8 @@ import stat
 import subprocess
 import time
 
-from radacctd_site.core import Failed
-from radacctd_site.copies import book, kept, owners, places
-from radacctl import files, postgres, site
-from radacctl.doctor import look
-from radacctl.setup import steps
+from radacctd_site.core import Failed, files, machine, places as of_kit
+from radacctd_site.copies import book, kept, owners, places, postgres
 
 NEW, AWAY = f"{places.FOLDER}/.new", f"{places.FOLDER}/away"
 OLD = ".old"
@@ -70,7 +67,7 @@ def dump_sql():
         return None
     try:
         with postgres.connection(settings) as (begin, options):
-            done = look.ran([*begin, "pg_dump", "-w", *options, "-f", path], 3600)
+            done = machine.ran([*begin, "pg_dump", "-w", *options, "-f", path], 3600)
         if done.returncode:
             raise OSError(done.stderr.strip()[-200:])
     except OSError as why:
@@ -113,7 +110,7 @@ def export(folder, name):
     with kept.looked_at(folder) as words:
         for what in ("sessions", "balances", "topups"):
             with gzip.open(f"{new}/{what}.csv.gz", "wb") as file, subprocess.Popen(
-                    [site.part("radacctd"), "export", what, *words],
+                    [of_kit.part("radacctd"), "export", what, *words],
                     stdout=subprocess.PIPE) as it:
                 shutil.copyfileobj(it.stdout, file)
             if it.returncode:
@@ -181,8 +178,8 @@ def carry_forward():
     oldest = os.environ.get("RADACCTD_OLDEST_REPORT", "").split()
     with book.stopped() as did_run:
         if did_run:
-            print(steps.given([site.program(), "forward", "--config", site.CONFIG, "--db", site.BOOK,
-                               "--explain", *oldest, *words]), end="")
+            print(machine.given([of_kit.PROGRAM, "forward", "--config", of_kit.CONFIG, "--db",
+                                 of_kit.BOOK, "--explain", *oldest, *words]), end="")
 
 
 def night():

@@ -15,14 +15,11 @@ import time
 import unittest
 from unittest import mock
 
-from radacctl import postgres, site
-from radacctl.commands import setup
-from radacctl.doctor import look
-from radacctl.setup import alone, steps
-from radacctd_site.core import Failed, places as of_core
+from radacctd_site.core import Failed, machine, places as of_core, steps
 from radacctd_site.copies.kept import sum_of
-from radacctd_site.copies import book, kept, looks, owners, places, restoring, taking
+from radacctd_site.copies import book, kept, looks, owners, places, postgres, restoring, taking
 
+subprocess_run = subprocess.run
 # Two users of Debian's who have nothing, in the place of radacctd's.
 USER, PAGES = "games", "man"
 # What stands for the program: a book that begins with BAD is not sound.
@@ -86,19 +83,18 @@ class Site(unittest.TestCase):
 
     def patch_places(self):
         top = self.top
-        self.patch(site, BOOK=f"{top}/state/book", STATE=f"{top}/state", USER=USER)
+        self.patch(of_core, BOOK=f"{top}/state/book", STATE=f"{top}/state", SERVER_USER=USER)
         self.patch(places, FOLDER=f"{top}/copies", EXPORTS=f"{top}/copies/exports",
                    STORES={f"{top}/site/site.db": (PAGES, 0o711)}, ROOTS=[f"{top}/etc/radacctd*"])
         self.patch(taking, NEW=f"{top}/copies/.new", AWAY=f"{top}/copies/away",
                    READERS=f"{top}/etc/recipients")
         self.patch(book, STOPPED=f"{top}/stopped")
-        self.patch(steps, refuse_if_away=lambda: None)
-        self.patch(look, is_active=lambda _: True)
-        part = site.part
-        self.patch(site, part=lambda it: f"{top}/program" if it == "radacctd" else part(it))
+        self.patch(machine, refuse_if_away=lambda: None, is_active=lambda _: True)
+        part = of_core.part
+        self.patch(of_core, part=lambda it: f"{top}/program" if it == "radacctd" else part(it))
         self.patch(postgres, settings=lambda: {})
-        given = steps.given
-        self.patch(steps, given=lambda words, *more: self.calls.append(words[1:]) if words[0] in (
+        given = machine.given
+        self.patch(machine, given=lambda words, *more: self.calls.append(words[1:]) if words[0] in (
             "systemctl", "systemd-sysusers") else given(words, *more))
 
     def patch(self, module, **found):
@@ -179,7 +175,7 @@ class Taking(Site):
         self.patch(places, NIGHTS=1)
         real = kept.listed
         for _ in range(2):
-            with mock.patch.object(look, "run", lambda *_, **__: (3, "db: Unbalanced\n")):
+            with mock.patch.object(machine, "run", lambda *_, **__: (3, "db: Unbalanced\n")):
                 self.assertRaisesRegex(Failed, "Unbalanced.*refused-site-", self.night)
         self.assertIs(real, kept.listed)
         self.assertEqual(len(places.names()), 1)
@@ -201,7 +197,7 @@ class Taking(Site):
                  "RADACCTD_OLDEST_REPORT": "--oldest-report 60"}
         said = f"#!/bin/sh\necho \"$@\" >>{self.top}/said\n"
         written(f"{self.top}/forward", said, mode=0o755)
-        self.patch(site, program=lambda: f"{self.top}/forward")
+        self.patch(of_core, PROGRAM=f"{self.top}/forward")
         for day, env, count in ((1, words, 0), (2, {}, 0), (2, words, 1)):
             now = time.localtime()[:2] + (day,) + time.localtime()[3:]
             with mock.patch.dict(os.environ, env), mock.patch.object(
@@ -213,7 +209,7 @@ class Taking(Site):
         self.assertIn("--oldest-report 60 --before 90 --keep books", text_of(f"{self.top}/said"))
 
     def test_a_server_that_was_stopped_stays_so(self):
-        with mock.patch.object(look, "is_active", lambda _: False):
+        with mock.patch.object(machine, "is_active", lambda _: False):
             self.night()
         self.assertEqual(self.calls, [])
 
@@ -229,7 +225,7 @@ class Taking(Site):
         self.assertFalse(os.path.exists(taking.NEW))
 
     def test_a_book_that_another_process_has_open(self):
-        with open(site.BOOK, "r+b") as other:
+        with open(of_core.BOOK, "r+b") as other:
             lock = book.LOCK.replace(b"\0\0", b"\1\0", 1)
             book.fcntl.fcntl(other, book.fcntl.F_OFD_SETLK, lock)
             self.assertRaisesRegex(Failed, "a process has", self.night)
@@ -293,7 +289,7 @@ class Attacked(Site):
                 self.assertNotIn(b"root's own", file.read(), it)
 
     def test_nor_does_a_pipe_or_a_second_name(self):
-        path = site.BOOK
+        path = of_core.BOOK
         os.rename(path, f"{path}.was")
         for make in (os.mkfifo, lambda it: os.link(self.secret, it),
                      lambda it: os.symlink(self.secret, it)):
@@ -309,7 +305,8 @@ class Attacked(Site):
         with self.racing(f"{self.top}/state", USER, "book", "book.new", "book-wal"):
             for number in range(20):
                 with contextlib.suppress(Failed, OSError):
-                    owners.put(site.BOOK, USER, str(number), {"": part, "-wal": part}, (0, 0o644))
+                    owners.put(of_core.BOOK, USER, str(number), {"": part, "-wal": part},
+                               (0, 0o644))
         after = os.stat(self.secret)
         self.assertEqual(sum_of(self.secret), content)
         self.assertEqual((after.st_mode, after.st_uid, after.st_ino),
@@ -320,7 +317,7 @@ class Restoring(Site):
     def setUp(self):
         super().setUp()
         self.patch(of_core, USER=PAGES)
-        self.patch(setup, LOCK=f"{self.top}/lock")
+        self.patch(restoring, LOCK=f"{self.top}/lock")
         # A test's folder is below /tmp, in which everyone may write.
         self.need, self.dates = restoring.need_root_only, []
         self.patch(restoring, need_root_only=lambda _: None)
@@ -345,33 +342,33 @@ class Restoring(Site):
             with open(f"{self.top}/{it}", "rb") as file:
                 self.assertEqual(file.read(), octets, it)
         self.assertEqual(self.sales(), [1])
-        owner = pwd.getpwuid(os.stat(site.BOOK).st_uid).pw_name
+        owner = pwd.getpwuid(os.stat(of_core.BOOK).st_uid).pw_name
         self.assertEqual((owner, os.listdir(f"{self.top}/etc").count("radacctd.toml")), (USER, 1))
         self.assertEqual(stat.S_IMODE(os.stat(f"{self.top}/etc/radacctd.toml").st_mode), 0o640)
         kept_there = sorted(it for it in os.listdir(f"{self.top}/state") if "before" in it)
         self.assertEqual(len(kept_there), 2)
         self.assertEqual([text_of(f"{self.top}/state/{it}") for it in kept_there],
                          ["another", "its log"])
-        self.assertFalse(os.path.exists(f"{site.BOOK}-wal"))
+        self.assertFalse(os.path.exists(f"{of_core.BOOK}-wal"))
 
     def test_a_book_that_is_there_is_replaced_by_its_date_alone(self):
         path = self.night()
         for given in (None, "2020-01-01"):
             self.assertRaisesRegex(Failed, f"--replaces {self.today()}", self.restore, path, given)
-        os.remove(site.BOOK)
+        os.remove(of_core.BOOK)
         self.assertRaisesRegex(Failed, "leave --replaces away", self.restore, path, self.today())
         self.restore(path)
-        self.assertTrue(os.path.exists(site.BOOK))
+        self.assertTrue(os.path.exists(of_core.BOOK))
 
     def test_the_book_alone(self):
         path = self.night()
         self.sell(2)
-        written(site.BOOK, "another", USER)
+        written(of_core.BOOK, "another", USER)
         self.calls.clear()
         with contextlib.redirect_stdout(io.StringIO()):
             self.assertEqual(restoring.restore(path, self.today(), is_book_alone=True), 0)
         self.assertEqual((self.sales(), self.calls), ([1, 2], [["stop", "radacctd.service"]]))
-        with open(site.BOOK, "rb") as now, open(f"{path}/book", "rb") as was:
+        with open(of_core.BOOK, "rb") as now, open(f"{path}/book", "rb") as was:
             self.assertEqual(now.read(), was.read())
 
     def test_a_damaged_copy_changes_nothing(self):
@@ -387,16 +384,16 @@ class Restoring(Site):
         self.assertRaisesRegex(Failed, "another user may change it", self.need, path)
 
     def test_the_set_up_does_the_rest_by_its_own_answers(self):
-        plan = [{"class": "default", "block": 1000, "unit": 5}]
         self.patch(restoring, ANSWERS=f"{self.top}/etc/radacctd-answers.json")
-        written(restoring.ANSWERS, json.dumps({"plan": plan}))
+        written(restoring.ANSWERS, json.dumps({"packages": ["nginx"], "answers": {}}))
         path = self.night()
-        done = mock.Mock(return_value=0)
-        with mock.patch.object(setup, "do", done), mock.patch.object(
-                alone, "packages", lambda _: mock.Mock(is_done=lambda: True)):
-            self.assertEqual(self.restore(path, self.today()), 0)
-        words, wanted = done.call_args.args
-        self.assertEqual((words.yes, wanted.plans[0]["class"]), (True, "default"))
+        packages, run = mock.Mock(), mock.Mock(return_value=mock.Mock(returncode=0))
+        self.patch(steps, packages=packages)
+        self.patch(restoring.subprocess, run=lambda words, **how: (
+            run(words) if words[1:] == ["setup", "--yes"] else subprocess_run(words, **how)))
+        self.assertEqual(self.restore(path, self.today()), 0)
+        packages.assert_called_once_with(["nginx"])
+        run.assert_called_once_with([of_core.RADACCTL, "setup", "--yes"])
 
 
 class Looks(Site):

@@ -2,10 +2,61 @@
 
 import argparse
 import importlib
+import os
 import sqlite3
 import sys
 
 from radacctd_site.core import Failed, features
+
+HELP = """\
+usage: radacctl COMMAND [..]
+
+Works on a site of radacctd. `radacctl COMMAND --help` describes a command.
+
+{}
+
+The status is 0 if all was done, and 2 for a bad command line.
+"""
+
+
+def plain(text, also=""):
+    """A text as a terminal may have it: other users chose names and lines that are in it."""
+    return "".join(it if it.isprintable() or it in also else "?" for it in str(text))
+
+
+def reason(fault):
+    """What a person reads of a fault: of one of the system's the file, and no number."""
+    if isinstance(fault, OSError) and fault.strerror:
+        return ": ".join(str(it) for it in (fault.filename, fault.strerror) if it)
+    return str(fault)
+
+
+def listed():
+    return "\n".join(f"  {name:9} {text}" for name, (text, _) in features.commands().items())
+
+
+def start(words):
+    """The status of radacctl. Each command says why it did not do all."""
+    name = words[0] if words else ""
+    if name in ("--help", "-h", "help"):
+        print(HELP.format(listed()), end="")
+        return 0
+    if name not in features.commands():
+        what = f"there is no command {plain(name)}" if name else "give a command"
+        print(f"radacctl: {what}. These are all:\n{listed()}", file=sys.stderr)
+        return 2
+    try:
+        return main(name, words[1:])
+    except BrokenPipeError:
+        # Who read it has gone: nothing more is written, and no fault is printed at the end.
+        os.dup2(os.open(os.devnull, os.O_WRONLY), sys.stdout.fileno())
+        return 1
+    except (Failed, OSError) as why:
+        print(f"radacctl {name}: {plain(reason(why), chr(10))}", file=sys.stderr, flush=True)
+        return getattr(why, "status", 1)
+    except KeyboardInterrupt:
+        print(f"radacctl {name}: stopped: give the same again, and it goes on", file=sys.stderr)
+        return 130
 
 
 def is_much(count, total, site):

@@ -16,21 +16,30 @@ from radacctd_site.core import accounts
 
 CLIENT, CLASS, SOURCE = "books", "debit", "127.0.0.9"
 WANTED = {"block": 1, "unit": 1, "count": "both"}
+# What the set-up and then a person told the service of radacctd: the last one counts.
+DROP_IN = "/etc/systemd/system/radacctd.service.d/radacctd-setup.conf"
 DEFAULTS = os.environ.get("RADACCTD_DEFAULTS", "/etc/default/radacctd")
 USUAL = "127.0.0.1", 1813
 # How often a report is sent, and how long an answer is waited for each time, in seconds.
 TRIES, PATIENCE = 2, 3
 
 
+def settings():
+    """Addresses and ports of the service, by the names of its unit, that are not the usual ones."""
+    text = ""
+    for path in (DROP_IN, DEFAULTS):
+        with contextlib.suppress(OSError), open(path, encoding="utf-8") as file:
+            text += file.read().replace("\\\n", "") + "\n"
+    found = re.findall(r"""(?m)^\s*(?:Environment=)?["']?(RADACCTD_\w+)=["']?([^"'\n]*)""", text)
+    return {name: value.strip() for name, value in found}
+
+
 def where():
     """Where radacctd hears reports."""
-    text = ""
-    with contextlib.suppress(OSError), open(DEFAULTS, encoding="utf-8") as file:
-        text = file.read()
-    values = dict(re.findall(r'(?m)^(RADACCTD_\w+)="?([^"\n]*)', text))
+    values = settings()
     binds = re.findall(r"--bind[ =](\S+)", values.get("RADACCTD_BIND", ""))
     host = binds[0] if binds and not {USUAL[0], "0.0.0.0"} & set(binds) else USUAL[0]
-    return host, int(values.get("RADACCTD_RADIUS_PORT", "") or USUAL[1])
+    return host, int(values.get("RADACCTD_RADIUS_PORT") or USUAL[1])
 
 
 def has_plan():

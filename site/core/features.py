@@ -14,9 +14,9 @@ Nothing else names a feature, so one whose folder is removed is gone. A feature.
     PACKAGES   of Debian, which the set-up installs
     UNITS      which the set-up enables
     SETUP      its part of the set-up: a module that may have packages(answers), files(answers,
-               config), units(answers) and tries(answers)
-    LOOKS      what the doctor looks at: a module that has look_at(kind)
-    PARTS      what a site may have, as the rows of radacctl.doctor.kind
+               config), units(answers) and tries(answers, config)
+    LOOKS      what no step sees: a module that has look_at(answers, config)
+    CRITICAL, WARNINGS  the faults that these name, with what each means
 """
 
 import collections
@@ -53,6 +53,12 @@ def modules(member):
     """The module that each feature names, by the feature's name."""
     return {name: importlib.import_module(f"{NAME}.{name}.{getattr(it, member)}")
             for name, it in features().items() if hasattr(it, member)}
+
+
+def meanings(member):
+    """What each fault means, by its name: those that harm now, or those that wait."""
+    return {name: text for it in features().values()
+            for name, text in getattr(it, member, {}).items()}
 
 
 def commands():

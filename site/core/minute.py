@@ -1,6 +1,6 @@
 """Sends again what the book has not answered: radacctd-minute.timer starts it each minute.
 
-If something has no answer for ten minutes the status is 1: so the doctor names the unit.
+If something has no answer for ten minutes the status is 1: so the check names the unit.
 """
 
 import time

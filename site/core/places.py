@@ -5,6 +5,23 @@ import pwd
 
 from radacctd_site.core import Failed, desk, money
 
+TOP = os.path.dirname(os.path.dirname(os.path.realpath(__file__)))
+# Installed, the kit is beside the programs that it runs, in lib; else it is in the repository.
+IS_INSTALLED = os.path.basename(TOP) == "radacctd_site"
+ABOVE = os.path.dirname(TOP)
+PARTS = ABOVE if IS_INSTALLED else f"{ABOVE}/etc"
+SBIN = os.path.normpath(f"{ABOVE}/../../sbin") if IS_INSTALLED else f"{ABOVE}/bin"
+# What runs radacctd as the user of its service if root calls it, and the kit's command.
+PROGRAM, RADACCTL = f"{SBIN}/radacctd", f"{SBIN}/radacctl"
+
+# radacctd's own, and what the set-up notes for root alone.
+CONFIG = "/etc/radacctd.toml"
+STATE, BOOK = "/var/lib/radacctd", "/var/lib/radacctd/book"
+COUNTS = "/var/lib/radacctd-counts/radacctd.prom"
+BACKUPS, NOTES = "/var/backups/radacctd", "/root/radacctd-setup"
+# The users of the server, of FreeRADIUS, and the group that reads balances.
+SERVER_USER, RADIUS_USER, READERS = "radacctd", "freerad", "radacctd-balances"
+
 USER = "radacctd-site"
 USUAL = "/var/lib/radacctd-site"
 FOLDER = os.environ.get("RADACCTD_SITE", USUAL)
@@ -14,6 +31,15 @@ SETTINGS = os.environ.get("RADACCTD_SETTINGS", money.SETTINGS)
 # hands them to the service, whose user may not read the files.
 KEY, SECRET = (os.path.join(os.environ.get("CREDENTIALS_DIRECTORY", "/etc"), it)
                for it in ("radacctd-site.key", "radacctd-books.secret"))
+
+
+def part(name):
+    """The path of a program that stands next to the kit."""
+    path = f"{ABOVE}/crates/radacctd/out/radacctd" if name == "radacctd" and not IS_INSTALLED \
+        else f"{PARTS}/{name}"
+    if not os.access(path, os.X_OK):
+        raise Failed(f"{path} is missing: install radacctd again")
+    return path
 
 
 def book():

@@ -7,21 +7,27 @@ import subprocess
 import tempfile
 import unittest
 
-import radacctl
 from radacctd_site.core import features, test_core
 
-# Runs the tests of who may ask for which page of a kit in a folder, and loads its commands, parts of
-# the set-up and looks.
+# Runs the tests of who may ask for which page, shows the commands, and lists the steps of a set-up,
+# of a kit in a folder.
 CHECK = """
 import sys, unittest
-sys.path.append(sys.argv[1] + "/..")
 from radacctd_site.core import cli, features, web
 names = ["radacctd_site.core.test_core." + it for it in ("Roles", "Forms", "Languages")]
 done = unittest.TextTestRunner().run(unittest.defaultTestLoader.loadTestsFromNames(names))
 for name in features.commands():
     cli.parser(name, cli.module_of(name))
-for member in ("SETUP", "LOOKS"):
-    features.modules(member)
+if "setup" in features.commands():
+    from radacctd_site.core import machine
+    machine.properties, machine.as_user = lambda *_: {}, lambda _: []
+    setup = cli.module_of("setup")
+    wanted = setup.of_answers.Answers({
+        "plan": [{"class": "default", "block": 1, "unit": 1}], "name": "x", "currency": "EUR",
+        "host": "a.example", "pair": {"own": "10.9.0.5", "other": "10.9.0.6"}})
+    config = setup.Config(wanted)
+    assert len(list(setup.steps_of(wanted, config))) > 20
+    assert list(setup.check.sides(config, wanted, setup.steps_of))
 sys.exit(not done.wasSuccessful())
 """
 
@@ -35,7 +41,7 @@ class Removed(unittest.TestCase):
                 kit = os.path.join(folder, features.NAME)
                 shutil.copytree(features.TOP, kit, ignore=shutil.ignore_patterns(
                     name, "__pycache__"))
-                words = ["/usr/bin/python3", "-Bc", CHECK, *radacctl.__path__]
+                words = ["/usr/bin/python3", "-Bc", CHECK]
                 done = subprocess.run(words, cwd=folder, capture_output=True, text=True)
                 self.assertEqual(done.returncode, 0, done.stderr[-2000:])
 

@@ -27,9 +27,9 @@ import time
 
 sys.dont_write_bytecode = True
 ROOT = os.path.dirname(os.path.dirname(os.path.dirname(os.path.realpath(__file__))))
-sys.path[:0] = [os.path.join(ROOT, it) for it in ("interop", "etc")]
+sys.path.insert(0, os.path.join(ROOT, "interop"))
 
-import radacctl  # it finds the kit
+import kit  # radacctd_site is found by it
 from radacctd_site.core import codes, corrections, live, names
 from radacctd_site.core.live import cashier
 from served import check, report

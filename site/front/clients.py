@@ -9,8 +9,7 @@ import os
 import re
 import tomllib
 
-from radacctl import files
-from radacctl.setup import alone, steps
+from radacctd_site.core import Failed, files
 
 RADDB = "/etc/radacctd-front"
 SECRETS = f"{RADDB}/secrets"
@@ -65,12 +64,12 @@ def written(old, answers):
             refuse_other(it, value(there[it["name"]], "ipaddr"))
             continue
         if it["address"] in named:
-            raise steps.Failed(f"clients.conf has the address of {it['name']} as "
+            raise Failed(f"clients.conf has the address of {it['name']} as "
                                f"{named[it['address']]}: change one of both")
         if ":" in it["address"] and not os.path.exists(f"{RADDB}/site.conf"):
-            raise steps.Failed(f"{it['name']} has an IPv6 address: first write a `listen` for it "
+            raise Failed(f"{it['name']} has an IPv6 address: first write a `listen` for it "
                                f"into {RADDB}/site.conf")
-        more = {"secret": alone.secret(answers, f"client-{it['name']}"),
+        more = {"secret": answers.secret(f"client-{it['name']}"),
                 "quota": QUOTAS.get(it["vendor"], "none"),
                 # A router that begins its ids anew at a boot.
                 "login": "yes" if it["vendor"] == "mikrotik" else "no"}
@@ -82,7 +81,7 @@ def refuse_other(wanted, found):
     """Another address is for a person to decide."""
     with contextlib.suppress(ValueError):
         if ipaddress.ip_network(found) != ipaddress.ip_network(wanted["address"]):
-            raise steps.Failed(f"clients.conf has the client {wanted['name']} with the address "
+            raise Failed(f"clients.conf has the client {wanted['name']} with the address "
                                f"{found}, not {wanted['address']}: change one of both")
 
 
@@ -90,7 +89,7 @@ def secret_of(name):
     """The secret that FreeRADIUS has with an access server."""
     found = value(dict(known()).get(name, ""), "secret")
     if not found:
-        raise steps.Failed(f"{RADDB}/clients.conf has no secret of {name}")
+        raise Failed(f"{RADDB}/clients.conf has no secret of {name}")
     return found
 
 

@@ -1,7 +1,9 @@
-"""What the front adds: its part of the set-up, and what the doctor looks at."""
+"""What the front adds: its part of the set-up, and the faults that it names."""
 
 SETUP, LOOKS = "setup", "looks"
-# One that a site made by hand, for a FreeRADIUS of its own, has neither of these traces.
-PARTS = [("has_front", "behind FreeRADIUS", "radacctd-front.service radacctd-cut.service",
-          ("/etc/systemd/system/multi-user.target.wants/radacctd-front.service",
-           "/root/radacctd-setup/authority"))]
+CRITICAL = {
+    "device-secret": "FreeRADIUS ignores a device: the device has another secret",
+    "front-wrong": "FreeRADIUS trusts every address, or radacctd does not know whom it reports for",
+    "reports-wait": "reports wait for radacctd, and are not answered",
+}
+WARNINGS = {"reports-aside": "radacctd does not take some reports, and nobody was charged"}

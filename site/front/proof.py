@@ -1,18 +1,17 @@
-"""Shows that the site works: a sale, a login and reports of an account of its own.
+"""Tries what a guest does: a sale, a login and reports of an account of its own, which use it up.
 
-The account is radacctd-setup. What it has is used up by reports, so it has nothing before and
-nothing after. A run that was killed left something: the next one uses that first.
+The account is radacctd-setup: it has nothing before and nothing after. A run that was killed left
+something: the next one uses that first.
 """
 
 import json
+import os
 import re
 import secrets
+import tempfile
 import time
 
-from radacctd_site.core import desk
-from radacctl import files
-from radacctl.doctor import kind, look
-from radacctl.setup import steps
+from radacctd_site.core import Failed, desk, files, machine
 from radacctd_site.front import clients, users
 from radacctd_site.front.clients import RADDB, TEST_ADDRESS, TEST_NAME
 
@@ -22,61 +21,60 @@ BLOCKS = 3
 
 
 class Proof:
-    """What is tried."""
+    """What is tried. Each method that tries yields what was as it should be."""
 
-    def __init__(self, answers):
+    def __init__(self, answers, config):
         self.plan = next(it for it in answers.plans if it["class"] == "default")
         # Nobody of ours is in a site's own database.
         self.has_login = not answers.sql
         # A sale is in one book, and a report in both: one of them would have a debt.
         self.sells = self.plan["unit"] and not answers.pair
-        self.book = kind.Book()
+        self.desk, self.key = config.desk(), config.keys["site"]
 
-    def do(self):
+    def tries(self):
         left, stamp = self.asked()
-        if self.sells:
-            if left:
-                print(f"{TEST_NAME} has something of an earlier run: a report uses it up")
-                self.report(stamp, left)
-            self.use_up()
-        elif self.plan["unit"]:
-            if self.has_login:
-                self.login("Access-Reject")
-            self.report(None, 1000)
-            print("a login without money is refused, and a report without a login answered")
-        else:
-            self.report(self.stamp(), 1000)
-            print("a login is accepted, and its report answered")
-
-    def use_up(self):
+        if not self.sells:
+            yield from self.without_sale()
+            return
+        if left:
+            yield f"{TEST_NAME} has something of an earlier run: a report uses it up"
+            self.report(stamp, left)
         block = self.plan["block"]
         self.sell(BLOCKS * self.plan["unit"])
         self.expect(BLOCKS * block, "a sale")
-        stamp = self.stamp()
-        print("a login with money is accepted")
+        stamp = self.login("Access-Accept") if self.has_login else self.asked()[1]
+        yield "a login with money is accepted" if self.has_login else (
+            "no login is tried: users are in a database of yours. Try one: radtest")
         self.report(stamp, block)
         self.expect((BLOCKS - 1) * block, "a report")
-        print(f"a report of {block} octets is answered, and costs {self.plan['unit']}")
+        yield f"a report of {block} octets is answered, and costs {self.plan['unit']}"
         self.report(stamp, (BLOCKS - 1) * block)
         self.expect(0, "a report of the rest")
         if self.has_login:
             self.login("Access-Reject")
-            print(f"a login without money is refused: {TEST_NAME} has 0")
+            yield f"a login without money is refused: {TEST_NAME} has 0"
+
+    def without_sale(self):
+        wanted = "Access-Reject" if self.plan["unit"] else "Access-Accept"
+        stamp = self.login(wanted) if self.has_login else None
+        self.report(stamp, 1000)
+        yield f"a login got {wanted}, and a report was answered"
 
     def asked(self):
-        """What radacctd's desk says: the octets that the account may use, and a stamp."""
+        """What radacctd's desk says to FreeRADIUS: the octets that the account may use, a stamp."""
         key = clients.value(files.text(f"{RADDB}/settings.conf"), "key")
         path, said = f"/logins/{TEST_NAME}/default", []
 
         def is_answered():
             try:
-                said[:] = desk.ask(self.book.desk(), "GET", path, key)
+                said[:] = desk.ask(self.desk, "GET", path, key)
             except OSError as why:
                 said[:] = 0, str(why)
             return said[0] in (200, 402)
 
-        steps.wait_until(is_answered, PATIENCE, lambda: (
-            f"radacctd's desk does not answer the front's key: {said[0] or said[1]}"))
+        if not machine.until(is_answered, PATIENCE):
+            raise Failed(f"radacctd's desk does not answer the key of {RADDB}/settings.conf: "
+                         f"{said[0] or said[1]}. See systemctl status radacctd")
         if said[0] == 402:
             return 0, None
         found = json.loads(said[1])
@@ -85,31 +83,25 @@ class Proof:
     def expect(self, octets, what):
         found = self.asked()[0]
         if found != octets:
-            raise steps.Failed(f"after {what} {TEST_NAME} may use {found} octets, and is to have "
-                               f"{octets}: radacctl doctor")
+            raise Failed(f"after {what} {TEST_NAME} may use {found} octets, and not {octets}")
 
     def sell(self, total):
-        key, number = files.text(desk.CASHIER_KEY).split("\n")[0], secrets.token_hex(8).upper()
-        sold, status, _ = desk.credit(self.book.desk(), key, TEST_NAME, total, f"SETUP-{number}")
+        number = f"SETUP-{secrets.token_hex(8).upper()}"
+        sold, status, _ = desk.credit(self.desk, self.key, TEST_NAME, total, number)
         if sold != desk.NEW:
-            raise steps.Failed(f"the desk did not take a sale: {sold} ({status})")
-
-    def stamp(self):
-        if self.has_login:
-            return self.login("Access-Accept")
-        print("no login is tried: users are in a database of yours. Try one: radtest")
-        return self.asked()[1]
+            raise Failed(f"the desk did not take a sale: {sold} ({status})")
 
     def login(self, wanted):
         """Logs in until the answer is the one that is wanted: the Class of it."""
-        [[password]] = users.rows("radcheck", TEST_NAME)
+        [password] = users.rows("radcheck") or [""]
         lines = [f'User-Name = "{TEST_NAME}"', f'User-Password = "{password}"']
         said, end = "", time.monotonic() + PATIENCE
         while f"Received {wanted}" not in said:
             if time.monotonic() > end:
                 # Its own lines have the password.
                 kept = [it for it in said.splitlines() if "Received" in it or "Message" in it]
-                raise steps.Failed(f"a login got no {wanted}: {' '.join(kept) or 'no answer'}")
+                raise Failed(f"a login got no {wanted}: {' '.join(kept) or 'no answer'}. See "
+                             "journalctl -u radacctd-front")
             said = self.client("logins", "auth", lines)
         return next(iter(re.findall(r"\tClass = (0x[0-9a-f]+)", said)), None)
 
@@ -124,13 +116,19 @@ class Proof:
             f'Acct-Session-Id = "{secrets.token_hex(8)}"',
             f"Acct-{name}-Octets = {octets % 2**32}", f"Acct-{name}-Gigawords = {octets >> 32}"])
         if "Received Accounting-Response" not in said:
-            raise steps.Failed("FreeRADIUS did not answer a report: journalctl -u radacctd-front")
+            raise Failed("FreeRADIUS did not answer a report: journalctl -u radacctd-front")
 
     def client(self, port, act, lines):
-        """What radclient prints of a packet of the set-up's own client."""
+        """What radclient prints of a packet of the set-up's own client, which it sends twice. The
+        secret is in a file of memory, and in no command line.
+        """
         settings = files.text(f"{RADDB}/settings.conf")
         address = clients.value(settings, "address").replace("*", "127.0.0.1")
         lines = [*lines, f"Packet-Src-IP-Address = {TEST_ADDRESS}",
                  f"NAS-IP-Address = {TEST_ADDRESS}"]
-        where = f"{address}:{clients.value(settings, port)}"
-        return look.radclient(where, act, clients.secret_of(TEST_NAME), lines, 3)
+        with tempfile.TemporaryDirectory(dir="/run") as folder:
+            path = os.path.join(folder, "secret")
+            files.make(path, clients.secret_of(TEST_NAME).encode() + b"\n")
+            words = ["radclient", "-r", "2", "-t", "3", "-x", "-S", path,
+                     f"{address}:{clients.value(settings, port)}", act]
+            return machine.run(*words, text="\n".join(lines) + "\n")[1]

@@ -8,17 +8,15 @@ import os
 import re
 import tempfile
 
-from radacctl import files as on_disk, site
-from radacctl.doctor import kind, look
-from radacctl.setup import alone, devices, steps
-from radacctl.setup.steps import Command, File, Folder, Fresh, Step
+from radacctd_site.core import Failed, files as on_disk, machine, places
+from radacctd_site.core.steps import Command, File, Folder, Step, Unit, is_fresh
 from radacctd_site.front import clients, proof, users
 from radacctd_site.front.clients import RADDB, SECRETS
 
 HERE = os.path.dirname(os.path.realpath(__file__))
 KEPT, CERTS = "/var/lib/radacctd-front", f"{RADDB}/certs"
 # What the site's authority signs with. Whoever has a certificate of it may log in by it.
-AUTHORITY = f"{alone.NOTES}/authority"
+AUTHORITY = f"{places.NOTES}/authority"
 CERTIFICATES = ("ca.pem", "server.pem", "server.key")
 OF_DEBIAN = ["freeradius", "freeradius-rest", "freeradius-utils", "openssl", "sqlite3"]
 OF_POSTGRESQL = ["freeradius-postgresql", "postgresql-client"]
@@ -27,7 +25,6 @@ EDITED = ("settings.conf", "clients.conf", "users.conf")
 UNITS = ("radacctd-front.service", "radacctd-cut.service")
 # What codes are digested with, also by the pages that sell them: systemd hands it to their service.
 CODES, PAGES = "/etc/radacctd-codes.key", "radacctd-site.service"
-HANDED = f"/run/credentials/{PAGES}/radacctd-codes.key"
 IS_ON = f"/etc/systemd/system/multi-user.target.wants/{UNITS[0]}"
 # How much of a burst of logins the kernel keeps, in octets.
 BURST, KERNEL = 4_194_304, "/proc/sys/net/core/rmem_max"
@@ -43,26 +40,26 @@ def files(answers, config):
     """What is on the disk."""
     if not answers.has_front:
         if os.path.lexists(IS_ON):
-            raise steps.Failed("FreeRADIUS is in front, and the answers have freeradius = false: "
-                               f"first systemctl disable --now {' '.join(UNITS)}")
+            raise Failed("FreeRADIUS is in front, and the answers have freeradius = false: "
+                         f"first systemctl disable --now {' '.join(UNITS)}")
         return
     refuse_if_in_use()
     config.of_features.append(shared)
-    yield Folder(RADDB, 0o750, of_group=site.RADIUS_USER)
+    config.secret_of = clients.secret_of
+    yield Folder(RADDB, 0o750, group=places.RADIUS_USER)
     for name in whole():
-        yield of_group(name, on_disk.text(f"{HERE}/raddb/{name}"))
+        yield of_group(name, own(f"raddb/{name}"))
     yield File(CODES, lambda old: old or code_key(answers), 0o600)
     yield of_group("settings.conf", lambda old: settings(old, config))
     yield of_group("clients.conf", lambda old: clients.written(old, answers))
-    for path in (KEPT, *(f"{KEPT}/{it}" for it in ("waits", "aside", "again", "lost"))):
-        yield Folder(path, 0o700, site.RADIUS_USER, site.RADIUS_USER)
+    # The unit makes what is in it.
+    yield Folder(KEPT, 0o700, places.RADIUS_USER, places.RADIUS_USER)
     yield from users.of(answers, of_group)
-    yield Folder(CERTS, 0o750, of_group=site.RADIUS_USER)
+    yield Folder(CERTS, 0o750, group=places.RADIUS_USER)
     yield Folder(AUTHORITY, 0o700)
     yield Step("make the site's own authority, and a certificate of it for FreeRADIUS",
                has_certificates, lambda: make_certificates(answers))
     yield from cut_off(answers, config)
-    yield from devices.of(answers, clients.secret_of)
     yield File("/etc/sysctl.d/radacctd-front.conf", f"net.core.rmem_max = {BURST}\n", 0o644)
 
 
@@ -74,24 +71,27 @@ def units(answers):
                   "systemd-sysctl.service")
     yield Command("stop Debian's own FreeRADIUS", lambda: not is_debians_on(), "systemctl",
                   "disable", "--now", "freeradius.service")
-    yield Fresh("test FreeRADIUS' configuration, and restart it", UNITS[0],
-                [f"{RADDB}/*", f"{CERTS}/*"], test())
-    yield from map(alone.unit, UNITS)
+    yield Unit(UNITS[0], [f"{RADDB}/*", f"{CERTS}/*"], test())
+    yield Unit(UNITS[1], [f"{RADDB}/cut.toml", f"{RADDB}/desk.key", f"{SECRETS}/*"])
     yield Command("restart the pages' service with the key of codes", is_handed, "systemctl",
                   "restart", PAGES)
 
 
 def is_handed():
     """Whether the pages' service has the key, or is not running."""
-    return not os.path.exists(HANDED) or on_disk.text(HANDED) == on_disk.text(CODES)
+    return not machine.is_active(PAGES) or is_fresh(PAGES, [CODES])
 
 
-def tries(answers):
+def tries(answers, config):
     """What shows at the end that it works."""
     if answers.has_front:
-        what = "a login and a report" if answers.pair else "a sale, a login and reports that use it up"
-        yield Step(f"try {what}: the account {clients.TEST_NAME}", lambda: False,
-                   proof.Proof(answers).do)
+        yield from proof.Proof(answers, config).tries()
+
+
+def own(path):
+    """A file as this version has it."""
+    with open(f"{HERE}/{path}", encoding="utf-8") as file:
+        return file.read()
 
 
 def whole():
@@ -99,27 +99,28 @@ def whole():
 
 
 def of_group(name, change):
-    return File(f"{RADDB}/{name}", change, 0o640, of_group=site.RADIUS_USER)
+    return File(f"{RADDB}/{name}", change, 0o640, places.RADIUS_USER)
 
 
 def test():
     """What lets FreeRADIUS test its files, as its own user."""
-    return [*on_disk.as_user(site.RADIUS_USER), "freeradius", "-C", "-l", "stdout", "-d", RADDB]
+    return [*machine.as_user(places.RADIUS_USER), "freeradius", "-C", "-l", "stdout", "-d", RADDB]
 
 
 def is_debians_on():
-    found = look.properties("freeradius.service", "ActiveState", "UnitFileState")
+    found = machine.properties("freeradius.service", "ActiveState", "UnitFileState")
     return found.get("ActiveState") == "active" or found.get("UnitFileState") == "enabled"
 
 
 def refuse_if_in_use():
     """A FreeRADIUS that serves by files of the site's own is not stopped."""
     if os.path.exists("/usr/sbin/freeradius") and is_debians_on():
-        changed = re.findall(r"(?m)^..5\S* c (\S+)$", look.run("dpkg", "-V", "freeradius-config")[1])
+        said = machine.run("dpkg", "-V", "freeradius-config")[1]
+        changed = re.findall(r"(?m)^..5\S* c (\S+)$", said)
         if changed:
-            raise steps.Failed(f"FreeRADIUS serves here by files of your own, as {changed[0]}: add "
-                               "radacctd to it (site/front/README.md, \"Your own FreeRADIUS\"), or "
-                               "end it: systemctl disable --now freeradius")
+            raise Failed(f"FreeRADIUS serves here by files of your own, as {changed[0]}: add "
+                         "radacctd to it (site/front/README.md, \"Your own FreeRADIUS\"), or "
+                         "end it: systemctl disable --now freeradius")
 
 
 def with_value(text, name, new):
@@ -137,14 +138,14 @@ def code_key(answers):
     """The key that FreeRADIUS has, or a new one."""
     had = clients.value(on_disk.text(f"{RADDB}/settings.conf"), "code_key")
     is_new = not had or had.startswith("change-me")
-    return (alone.secret(answers, "codes") if is_new else had) + "\n"
+    return (answers.secret("codes") if is_new else had) + "\n"
 
 
 def settings(old, config):
     """settings.conf with radacctd's address, key and secret; what a site has changed stays."""
-    text, book = old or on_disk.text(f"{HERE}/raddb/settings.conf"), kind.Book()
-    known = {"desk": "{}:{}".format(*book.desk()), "key": config.keys["logins"],
-             "book_port": book.port(), "book_secret": config.clients["front"]["secret"],
+    text = old or own("raddb/settings.conf")
+    known = {"desk": "{}:{}".format(*config.desk()), "key": config.keys["logins"],
+             "book_port": config.port(), "book_secret": config.clients["front"]["secret"],
              "code_key": on_disk.text(CODES).strip()}
     for name, it in known.items():
         text = with_value(text, name, it)
@@ -162,14 +163,14 @@ def make_certificates(answers):
     with tempfile.TemporaryDirectory(dir="/run") as folder:
         made = lambda it: os.path.join(folder, it)
         if not os.path.exists(f"{AUTHORITY}/ca.key"):
-            steps.given([*begin, "-subj", f"/CN=Authority of {name[:40]}", "-keyout",
-                         made("ca.key"), "-out", made("ca.pem")])
+            machine.given([*begin, "-subj", f"/CN=Authority of {name[:40]}", "-keyout",
+                           made("ca.key"), "-out", made("ca.pem")])
             for it in ("ca.pem", "ca.key"):
                 File(f"{AUTHORITY}/{it}", on_disk.text(made(it)), 0o600).do()
-        steps.given([*begin, "-subj", f"/CN={name[:64]}", "-CA", f"{AUTHORITY}/ca.pem", "-CAkey",
-                     f"{AUTHORITY}/ca.key", "-addext", "basicConstraints=CA:FALSE", "-addext",
-                     "extendedKeyUsage=serverAuth", "-keyout", made("server.key"), "-out",
-                     made("server.pem")])
+        machine.given([*begin, "-subj", f"/CN={name[:64]}", "-CA", f"{AUTHORITY}/ca.pem", "-CAkey",
+                       f"{AUTHORITY}/ca.key", "-addext", "basicConstraints=CA:FALSE", "-addext",
+                       "extendedKeyUsage=serverAuth", "-keyout", made("server.key"), "-out",
+                       made("server.pem")])
         texts = [on_disk.text(it) for it in (f"{AUTHORITY}/ca.pem", made("server.pem"),
                                              made("server.key"))]
         for it, text in zip(CERTIFICATES, texts):
@@ -179,12 +180,11 @@ def make_certificates(answers):
 def cut_off(answers, config):
     """Who ends sessions, with each secret in a file of its own."""
     yield of_group("desk.key", config.keys["logins"] + "\n")
-    yield Folder(SECRETS, 0o750, of_group=site.RADIUS_USER)
+    yield Folder(SECRETS, 0o750, group=places.RADIUS_USER)
     asked = clients.asked_to_cut(answers)
     for name in (it["name"] for it in asked):
         yield of_group(f"secrets/{name}", lambda _, name=name: clients.secret_of(name) + "\n")
-    sample = on_disk.text(f"{HERE}/cut.toml")
-    yield of_group("cut.toml", lambda old: clients.cut_toml(old or sample, asked))
+    yield of_group("cut.toml", lambda old: clients.cut_toml(old or own("cut.toml"), asked))
 
 
 def keeps_burst():

@@ -1,4 +1,4 @@
-"""What the set-up writes for FreeRADIUS, what stays as it was, and what the doctor sees."""
+"""What the set-up writes for FreeRADIUS, what stays as it was, and what its check sees."""
 
 import os
 import re
@@ -8,17 +8,11 @@ import tomllib
 import unittest
 from unittest import mock
 
-from radacctl import files
-from radacctl.doctor import look
-from radacctl.setup import alone, answers, steps
+from radacctd_site.core import Failed, files, looks as of_core, machine
+from radacctd_site.core.test_client import answers as wanted
 from radacctd_site.front import clients, looks, setup, users
 
-PLAN = {"class": "default", "block": 1000, "unit": 5}
 LOBBY = {"name": "lobby", "address": "10.0.0.1", "vendor": "mikrotik"}
-
-
-def wanted(*servers, **more):
-    return answers.Answers({"plan": [PLAN], "access_server": list(servers), **more})
 
 
 class Clients(unittest.TestCase):
@@ -36,7 +30,8 @@ class Clients(unittest.TestCase):
         text = clients.written(None, wanted(LOBBY))
         mine = text.replace("pays = yes", "pays = no") + "\n# mine\n"
         mine = mine.replace("client lobby {", '\tclient "lobby" { # by hand')
-        more = clients.written(mine, wanted(LOBBY, {"name": "roof", "address": "10.0.1.0/24"}))
+        roof = {"name": "roof", "address": "10.0.1.0/24", "vendor": "other"}
+        more = clients.written(mine, wanted(LOBBY, roof))
         self.assertTrue(more.startswith(mine))
         self.assertIn("\tipaddr = 10.0.1.0/24\n", more)
 
@@ -44,16 +39,16 @@ class Clients(unittest.TestCase):
         text = clients.written(None, wanted(LOBBY))
         for why, other in (("10.0.0.1, not 10.0.0.2", {"address": "10.0.0.2"}),
                            ("of attic as lobby", {"name": "attic"})):
-            self.assertRaisesRegex(steps.Failed, why, clients.written, text,
+            self.assertRaisesRegex(Failed, why, clients.written, text,
                                    wanted({**LOBBY, **other}))
 
     def test_an_ipv6_address_needs_a_listener(self):
         one = wanted({**LOBBY, "address": "fd00::1"})
-        self.assertRaisesRegex(steps.Failed, "site.conf", clients.written, None, one)
+        self.assertRaisesRegex(Failed, "site.conf", clients.written, None, one)
 
     def test_a_secret_that_cannot_be_found_is_not_written_as_none(self):
         with mock.patch.object(files, "text", lambda _: ""):
-            self.assertRaises(steps.Failed, clients.secret_of, "lobby")
+            self.assertRaises(Failed, clients.secret_of, "lobby")
 
     def test_values(self):
         for text, found in (('x = "a b"', "a b"), ("y = 1, x = a, z", "a"), ('x = ""', ""),
@@ -79,7 +74,8 @@ class CutOff(unittest.TestCase):
 
 class Settings(unittest.TestCase):
     def config(self):
-        return mock.Mock(keys={"logins": "l" * 32}, clients={"front": {"secret": "b" * 32}})
+        return mock.Mock(keys={"logins": "l" * 32}, clients={"front": {"secret": "b" * 32}},
+                         desk=lambda: ("127.0.0.1", 8066), port=lambda: "11813")
 
     def written(self, old):
         text = files.text
@@ -89,6 +85,7 @@ class Settings(unittest.TestCase):
 
     def test_radacctds_values_are_written_and_the_sites_stay(self):
         text = self.written(None)
+        self.assertIn("book_port = 11813", text)
         self.assertNotIn("change-me", text)
         self.assertEqual([clients.value(text, it) for it in ("key", "book_secret", "code_key")],
                          ["l" * 32, "b" * 32, "c" * 32])
@@ -103,15 +100,6 @@ class Settings(unittest.TestCase):
             self.assertEqual(found == "of-old-codes-0001\n", is_kept)
             self.assertRegex(found, "^[A-Za-z0-9-]{16,64}\n$")
 
-    def test_no_secret_is_shown(self):
-        with tempfile.TemporaryDirectory() as folder:
-            path = os.path.join(folder, "settings.conf")
-            files.make(path, self.written(None).encode())
-            os.chmod(path, 0o640)
-            said = steps.File(path, lambda old: re.sub("([lbc])\\1{31}", "x" * 32, old), 0o640).text()
-        self.assertEqual(re.findall("[lbcx]{32}", said), [])
-        self.assertIn("(a line with a secret)", said)
-
 
 class Users(unittest.TestCase):
     def test_a_password_cannot_leave_its_line(self):
@@ -123,7 +111,7 @@ class Users(unittest.TestCase):
                 if is_right:
                     self.assertEqual(users.password(file.name), text)
                 else:
-                    self.assertRaises(steps.Failed, users.password, file.name)
+                    self.assertRaises(Failed, users.password, file.name)
 
 
 class InUse(unittest.TestCase):
@@ -131,47 +119,17 @@ class InUse(unittest.TestCase):
         changed = "??5?????? c /etc/freeradius/3.0/clients.conf\n"
         for said, is_on, is_refused in ((changed, True, True), (changed, False, False),
                                         ("", True, False)):
-            with mock.patch.object(look, "run", lambda *_, it=said: (2, it)), \
+            with mock.patch.object(machine, "run", lambda *_, it=said: (2, it)), \
                     mock.patch.object(setup, "is_debians_on", lambda it=is_on: it), \
                     mock.patch.object(os.path, "exists", lambda _: True):
                 if is_refused:
-                    self.assertRaisesRegex(steps.Failed, "clients.conf", setup.refuse_if_in_use)
+                    self.assertRaisesRegex(Failed, "clients.conf", setup.refuse_if_in_use)
                 else:
                     setup.refuse_if_in_use()
 
 
-class Handed(unittest.TestCase):
-    def test_the_pages_service_is_restarted_until_it_has_the_key_of_codes(self):
-        with tempfile.TemporaryDirectory() as folder, \
-                mock.patch.multiple(setup, HANDED=f"{folder}/handed", CODES=f"{folder}/codes"):
-            found = [setup.is_handed()]
-            for name, text in (("codes", b"key"), ("handed", b""), ("handed", b"key")):
-                files.replace(f"{folder}/{name}", text)
-                found.append(setup.is_handed())
-        self.assertEqual(found, [True, True, False, True])
-
-
-class Configuration(unittest.TestCase):
-    def test_radacctd_gets_a_stamped_client_a_free_plan_and_a_key(self):
-        with mock.patch("radacctl.site.CONFIG", "/nonexistent"):
-            config = alone.Config(wanted(LOBBY))
-        found = tomllib.loads(config.wanted(""))
-        client = next(it for it in found["client"] if it["name"] == "front")
-        plan = next(it for it in found["plan"] if it["class"] == client["plan"])
-        self.assertEqual((client["stamped"], client["proxy"], plan["unit"]), (True, True, 0))
-        self.assertGreaterEqual(len(found["stamp"]["secret"]), 16)
-        self.assertEqual([it["token"] for it in found["key"] if it.get("logins")],
-                         [config.keys["logins"]])
-        self.assertEqual([it["token"] for it in found["key"] if it.get("accounts")],
-                         [config.keys["site"]])
-        own = {"class": "visitors", "block": 1000, "unit": 0}
-        with mock.patch("radacctl.site.CONFIG", "/nonexistent"):
-            config = alone.Config(answers.Answers({"plan": [PLAN, own]}))
-        self.assertEqual(config.clients["front"]["plan"], "visitors")
-
-
 class Looks(unittest.TestCase):
-    """What the doctor says of FreeRADIUS."""
+    """What the check says of FreeRADIUS."""
 
     LINES = (
         "Info: Dropping packet without response because of error: Received Accounting-Request "
@@ -185,7 +143,7 @@ class Looks(unittest.TestCase):
         begin = time.strftime("%a %b %d %H:%M:%S %Y")
         said = "".join(f"{begin} : {it}\n" for it in lines)
         said += "lobby, no: x unknown client 10.0.0.11 port 1 proto udp\n"
-        with mock.patch.object(look, "must", lambda *_: said):
+        with mock.patch.object(machine, "journal", lambda _: said):
             return [(it.name, it.text) for it in looks.ignored()]
 
     def test_devices_that_are_not_answered(self):
@@ -203,35 +161,21 @@ class Looks(unittest.TestCase):
                                     (now - 600, None, ["reports-wait"]),
                                     (None, now, ["reports-aside"] * 3)):
             oldest = lambda path, one=waits, two=aside: one if path.endswith("/waits") else two
-            with mock.patch.object(look, "oldest_kept", oldest):
+            with mock.patch.object(of_core, "oldest_kept", oldest):
                 self.assertEqual([it.name for it in looks.kept()], names)
 
     def test_the_oldest_of_a_folder(self):
         for said, found in (("\tTimestamp = 5\n\tTimestamp = 3\n", 3), ("", None),
                             ("find: no such folder\n", None)):
-            with mock.patch.object(look, "run", lambda *_, it=said: (1, it)):
-                self.assertEqual(look.oldest_kept("/x"), found)
+            with mock.patch.object(machine, "run", lambda *_, it=said: (1, it)):
+                self.assertEqual(of_core.oldest_kept("/x"), found)
 
-    def test_what_differs_from_radacctd(self):
-        book = mock.Mock(desk=lambda: ("127.0.0.1", 8066), port=lambda: 11813, config="/x")
-        client = {"name": "front", "secret": "s", "stamped": True, "proxy": True}
-        text = "desk = 127.0.0.1:8066\nbook_port = 11813\nbook_secret = s\n"
-        for change, more, names in (("", {}, []), ("11813", {}, ["front-address"]),
-                                    ("8066", {}, ["front-address"]),
-                                    ("", {"secret": "t"}, ["front-secret"]),
-                                    ("", {"stamped": False}, ["front-secret"])):
-            with mock.patch.object(looks.books, "content",
-                                   lambda _, it=more: {"client": [{**client, **it}]}):
-                found = looks.to_radacctd(book, text.replace(change, "1") if change else text)
-                self.assertEqual([it.name for it in found], names, (change, more))
-
-    def test_a_key_that_the_desk_refuses(self):
-        for status, count in ((200, 0), (402, 0), (403, 1), (503, 1)):
-            with mock.patch.object(looks.desk, "ask", lambda *_, it=status: (it, b"")):
-                found = list(looks.answered(mock.Mock(config="/x"), "k"))
-            self.assertEqual(len(found), count, status)
-        with mock.patch.object(looks.desk, "ask", side_effect=ConnectionRefusedError("x")):
-            self.assertEqual([it.name for it in looks.answered(mock.Mock(), "k")], ["front-key"])
+    def test_what_lets_anybody_in_is_told(self):
+        for address, count in (("0.0.0.0/0", 1), ("*", 1), ("::/0", 1), ("10.0.0.0/8", 0)):
+            text = f"client x {{\n\tipaddr = {address}\n}}\n"
+            with mock.patch.object(files, "text", lambda _, it=text: it), \
+                    mock.patch.object(users, "sql", lambda _: ""):
+                self.assertEqual(len(list(looks.everybody(wanted(sql={})))), count, address)
 
 
 if __name__ == "__main__":

@@ -4,10 +4,8 @@ import os
 import re
 import secrets
 
-from radacctd_site.core import places
-from radacctl import files, site
-from radacctl.setup import alone, steps
-from radacctl.setup.steps import Command, File, Folder, Step
+from radacctd_site.core import Failed, files, machine, places, steps
+from radacctd_site.core.steps import Command, Step
 from radacctd_site.front import clients
 
 HERE = os.path.dirname(os.path.realpath(__file__))
@@ -26,39 +24,49 @@ def of(answers, of_group):
         yield of_group("users.conf", lambda old: old or POSTGRESQL.format(
             password=password(answers.sql["password_file"]), **answers.sql))
         return
-    sample = files.text(f"{HERE}/raddb/users.conf")
+    with open(f"{HERE}/raddb/users.conf", encoding="utf-8") as file:
+        sample = file.read()
     yield of_group("users.conf", lambda old: sample if old is None else old)
-    yield alone.user(places.USER)
-    yield Folder(places.USUAL, 0o711, places.USER, places.USER)
-    new = File(FILE, "", 0o640, places.USER, site.RADIUS_USER)
-    yield Step(f"make {FILE}", lambda: os.path.lexists(FILE), new.do)
-    yield Command("make FreeRADIUS' tables of users", lambda: rows("radusergroup") is not None,
-                  *as_writer(), f".read {HERE}/users.sql")
+    yield Command(f"make {FILE}, with FreeRADIUS' tables of users", lambda: rows("radusergroup")
+                  is not None, *machine.as_user(places.USER), "sh", "-c",
+                  'umask 027; sqlite3 -bail "$1" ".read $2"', "sh", FILE, f"{HERE}/users.sql")
+    yield Step(f"let {places.RADIUS_USER} read {FILE}", lambda: steps.rights_of(os.lstat(FILE)) == (
+        *steps.ids(places.USER, places.RADIUS_USER), 0o640), give)
     yield Step(f"make the login {clients.TEST_NAME}, which has no money but for a try",
-               lambda: bool(rows("radcheck", clients.TEST_NAME)), make_login)
+               lambda: bool(rows("radcheck")), make_login)
+
+
+def give():
+    files.give(FILE, places.USER, steps.ids(places.USER, places.RADIUS_USER)[1], 0o640)
 
 
 def password(path):
     found = files.text(path).rstrip("\n")
     if not re.fullmatch(r'[ -~]{1,200}', found) or set(found) & set('"\\$%{'):
-        raise steps.Failed(f"{path} has no password of one line without \" \\ $ % and {{")
+        raise Failed(f"{path} has no password of one line without \" \\ $ % and {{")
     return found
 
 
-def as_writer():
-    """What runs SQL on the file of users, as the user whose file it is."""
-    return [*files.as_user(places.USER), "sqlite3", "-bail", FILE]
+def sql(text):
+    """What SQL prints, which the user does whose file it is."""
+    return machine.given([*machine.as_user(places.USER), "sqlite3", "-bail", FILE], text, 60)
 
 
-def rows(table, name=""):
-    """The values of a name in a table of users; None if it cannot be read."""
+def rows(table):
+    """What a table has of the try's login; None if it cannot be read."""
     column = "value" if table == "radcheck" else "groupname"
     try:
-        return files.rows(FILE, f"SELECT {column} FROM {table} WHERE username = ?", name)
-    except OSError:
+        return sql(f"SELECT {column} FROM {table} WHERE username = '{clients.TEST_NAME}';").split()
+    except Failed:
         return None
 
 
+def open_to_all():
+    """The names that need no password."""
+    return sql("SELECT DISTINCT username FROM radcheck WHERE attribute = 'Auth-Type' OR "
+               "attribute LIKE '%-Password' AND value = '';").splitlines()
+
+
 def make_login():
-    steps.given(as_writer(), "INSERT INTO radcheck (username, attribute, op, value) VALUES "
-                f"('{clients.TEST_NAME}', 'Cleartext-Password', ':=', '{secrets.token_hex(16)}');\n")
+    sql("INSERT INTO radcheck (username, attribute, op, value) VALUES "
+        f"('{clients.TEST_NAME}', 'Cleartext-Password', ':=', '{secrets.token_hex(16)}');\n")

@@ -28,10 +28,10 @@ import time
 
 sys.dont_write_bytecode = True
 ROOT = os.path.dirname(os.path.dirname(os.path.dirname(os.path.realpath(__file__))))
-sys.path[:0] = [os.path.join(ROOT, it) for it in ("interop", "etc", "site/front")]
+sys.path[:0] = [os.path.join(ROOT, it) for it in ("interop", "site/front")]
 
 import machine
-import radacctl  # it finds the kit
+import kit  # radacctd_site is found by it
 import served
 import start_site
 import test_lab as lab
@@ -307,7 +307,7 @@ def on_machine():
             found.must(f"radacctl code end {code}; systemctl start radacctd-minute")
             check("one that is ended does not", (site.logs_in(code), site.logs_in(sold)),
                   (False, True))
-            check("the doctor finds nothing", start_site.is_sound(found), [])
+            check("the check finds nothing", start_site.is_sound(found), [])
 
 
 def on_loopback(kills):

@@ -1,4 +1,4 @@
-"""What two machines with the same balances add."""
+"""What two machines that share reports add."""
 
 SETUP, LOOKS = "setup", "looks"
-PARTS = [("has_pair", "one of a pair", "", ("/etc/radacctd-front/pair.conf",))]
+WARNINGS = {"pair-waits": "reports wait for the other machine"}

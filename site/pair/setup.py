@@ -5,16 +5,14 @@ import json
 import os
 import re
 
-from radacctl import files as on_disk, site
-from radacctl.doctor import look
-from radacctl.setup import alone, steps
-from radacctl.setup.steps import File, Folder
+from radacctd_site.core import Failed, book, files as on_disk, places, steps
+from radacctd_site.core.steps import File
 
 HERE = os.path.dirname(os.path.realpath(__file__))
 RADDB, CONF = "/etc/radacctd-front", "/etc/radacctd-front/pair.conf"
-OTHER, WRITTEN = f"{alone.NOTES}/other-machine.toml", f"{alone.NOTES}/other-machine.written"
+OTHER, WRITTEN = f"{places.NOTES}/other-machine.toml", f"{places.NOTES}/other-machine.written"
 # The one account that the try of a set-up uses.
-TEST = b"radacctd-setup"
+TEST = "radacctd-setup"
 
 
 def files(answers, config):
@@ -22,33 +20,38 @@ def files(answers, config):
     if not answers.pair:
         return
     # A book that has sold is not copied by a set-up.
-    others = set(look.balances()) - {TEST}
+    others = book.names() - {TEST}
     if others and not os.path.exists(CONF):
-        raise steps.Failed(f"the book has {len(others)} accounts already: make a pair of it by the "
-                           "steps of site/pair/README.md, which copy the book")
+        raise Failed(f"the book has {len(others)} accounts already: make a pair of it by the "
+                     "steps of site/pair/README.md, which copy the book")
     secret = secret_of(answers)
     yield of_group("pair.conf", lambda old: conf(old, answers, secret))
     for name in ("pair", "pair-taken"):
-        yield of_group(name, on_disk.text(f"{HERE}/raddb/{name}"))
-    yield Folder("/var/lib/radacctd-front/other", 0o700, site.RADIUS_USER, site.RADIUS_USER)
+        yield of_group(name, own(name))
+    yield steps.folder_of(places.RADIUS_USER, "/var/lib/radacctd-front/other")
     if not answers.secrets and not answers.pair["second"]:
         shared = lambda: {**config.secrets(), "pair": secret}
         yield Once(OTHER, lambda _: text(answers, shared()), 0o600)
 
 
+def own(name):
+    with open(f"{HERE}/raddb/{name}", encoding="utf-8") as file:
+        return file.read()
+
+
 def of_group(name, change):
-    return File(f"{RADDB}/{name}", change, 0o640, of_group=site.RADIUS_USER)
+    return File(f"{RADDB}/{name}", change, 0o640, places.RADIUS_USER)
 
 
 def secret_of(answers):
     """What both machines share: that of the file, or a new one."""
     found = re.search(r"(?m)^\s*secret = (\S+)$", on_disk.text(CONF))
-    return found[1] if found else alone.secret(answers, "pair")
+    return found[1] if found else answers.secret("pair")
 
 
 def conf(old, answers, secret):
     """pair.conf with both addresses; the port stays."""
-    text = old or on_disk.text(f"{HERE}/raddb/pair.conf")
+    text = old or own("pair.conf")
     for name, value in (("address", answers.pair["own"]), ("other", answers.pair["other"]),
                         ("secret", secret)):
         text = re.sub(rf"(?m)^([^#\n]*?\b{name} = )[^\s,]+", rf"\g<1>{value}", text, count=1)
@@ -61,9 +64,9 @@ class Once(File):
     def mark(self):
         return hashlib.sha256(self.wanted(None)).hexdigest() + "\n"
 
-    def is_done(self):
+    def look(self):
         is_written = on_disk.text(WRITTEN) == self.mark()
-        return is_written and (super().is_done() or not os.path.lexists(self.path))
+        return is_written and (super().look() or not os.path.lexists(self.path))
 
     def do(self):
         super().do()
@@ -81,7 +84,7 @@ def text(answers, secrets):
     lines = ["# The other machine of the pair: radacctl setup --yes with this file. It has",
              "# all secrets: once that is done, remove the first machine's, and the table",
              "# [secrets] of the other one's, which is for upgrades.",
-             f"# Copy {alone.NOTES}/authority there before, so that devices trust both."]
+             f"# Copy {places.NOTES}/authority there before, so that devices trust both."]
     if tables["sql"]:
         path = tables["sql"]["password_file"]
         lines.append(f"# The password of [sql] is not in it: copy {path}, too.")

@@ -5,7 +5,7 @@ import os
 import re
 import tempfile
 
-from radacctl import files
+from radacctd_site.core import files
 
 CONF = "/etc/radacctd-front/users.conf"
 

@@ -1,10 +1,12 @@
 """What to type or to click at an access server. The text has its secret: only root reads it."""
 
 import re
+import shlex
 
-from radacctl.setup.alone import NOTES, File, Folder
+from radacctd_site.core import places
+from radacctd_site.core.steps import File, Folder
 
-FOLDER = f"{NOTES}/access-servers"
+FOLDER = f"{places.NOTES}/access-servers"
 # How often a session is reported, in minutes: a report that overdraws cuts off at the next one.
 INTERVAL = 5
 MIKROTIK = """\
@@ -59,62 +61,23 @@ uci set wireless.@wifi-iface[0].dae_port=3799
 uci set wireless.@wifi-iface[0].dae_secret={quoted}
 uci commit wireless; wifi reload
 """
-ARUBA = """\
-# ArubaOS, for {name}: these lines of its configuration, as its manual names them. Not tried here.
-# It takes no quota: who overdraws is disconnected at port 3799.
-aaa authentication-server radius "radacctd"
-    host {server}
-    key {secret}
-    nas-identifier {name}
-aaa server-group "radacctd"
-    auth-server radacctd
-aaa rfc-3576-server {server}
-    key {secret}
-aaa timers stats-timeout {interval}
-# In the aaa profile of your network:
-    dot1x-server-group "radacctd"
-    radius-accounting "radacctd"
-    radius-interim-accounting
-    rfc-3576-server "{server}"
-# In the role before the login, what may be reached: {host}
-"""
-CISCO = """\
-! Cisco IOS XE, for {name}: these lines of its configuration, as its manual names them. Not tried
-! here. It takes no quota: who overdraws is disconnected at port 1700.
-radius server radacctd
- address {family} {server} auth-port 1812 acct-port 1813
- key {secret}
-aaa group server radius radacctd
- server name radacctd
-radius-server attribute 32 include-in-accounting-req format {name}
-aaa accounting gigawords
-aaa accounting delay-start
-aaa accounting update newinfo periodic {interval}
-aaa accounting network default start-stop group radacctd
-aaa accounting identity default start-stop group radacctd
-aaa server radius dynamic-author
- client {server} server-key {secret}
- port 1700
-! In the list of what may be reached before a login: {host}
-"""
 OTHER = """\
 {name}, as its own manual names these:
     RADIUS server {server}, authentication port 1812, accounting port 1813
     NAS-Identifier {name}
     interim updates each {interval} minutes, gigawords on, Acct-Delay-Time on
-    Disconnect-Requests (RFC 5176) from {server} at port 3799
+    Disconnect-Requests (RFC 5176) from {server} at port {port}
     a clock set by NTP
     what may be reached without a login: {host}
     shared secret: {secret}
 """
 # A line with the name of the pages is for a site that has them.
-TEXTS = {"mikrotik": MIKROTIK, "unifi": UNIFI, "pfsense": PFSENSE, "openwrt": OPENWRT,
-         "aruba": ARUBA, "cisco": CISCO, "other": OTHER}
+TEXTS = {"mikrotik": MIKROTIK, "unifi": UNIFI, "pfsense": PFSENSE, "openwrt": OPENWRT}
 # What a comment begins with, where the text is typed; and the first line without FreeRADIUS.
-MARKS = {"mikrotik": "# ", "openwrt": "# ", "aruba": "# ", "cisco": "! "}
+MARKS = {"mikrotik": "# ", "openwrt": "# "}
 ALONE = """\
-{mark}Only reports go to this machine, at port 1813: without FreeRADIUS it answers no login. Leave the
-{mark}server of logins as it is, whatever the lines below say of one.
+{mark}Only reports go to this machine, at port 1813: without FreeRADIUS it answers no login. Leave
+{mark}the server of logins as it is, whatever the lines below say of one.
 """
 
 
@@ -124,20 +87,15 @@ def routeros(text):
                   text)
 
 
-def quoted(text):
-    """A text as the shell of OpenWrt reads it."""
-    return "'" + text.replace("'", "'\\''") + "'"
-
-
 def text_of(device, answers, secret):
-    lines = TEXTS[device["vendor"]].splitlines(True)
+    lines = TEXTS.get(device["vendor"], OTHER).splitlines(True)
     text = "".join(it for it in lines if answers.host or "{host}" not in it)
     if not answers.has_front:
         text = ALONE.format(mark=MARKS.get(device["vendor"], "")) + text
     values = {**device, "secret": secret, "server": answers.server or "ADDRESS-OF-THIS-MACHINE",
               "host": answers.host, "interval": INTERVAL, "seconds": 60 * INTERVAL,
-              "routeros": routeros(secret), "quoted": quoted(secret),
-              "family": "ipv6" if ":" in answers.server else "ipv4"}
+              "routeros": routeros(secret), "quoted": shlex.quote(secret),
+              "port": 1700 if device["vendor"] == "cisco" else 3799}
     return text.format(**values)
 
 
@@ -146,4 +104,4 @@ def of(answers, secret_of):
     yield Folder(FOLDER, 0o700)
     for it in answers.access_servers:
         yield File(f"{FOLDER}/{it['name']}.txt",
-                   lambda _, it=it: text_of(it, answers, secret_of(it["name"])), 0o600)
+                   lambda _, it=it: text_of(it, answers, secret_of(it["name"])), 0o600, keeps=False)

@@ -1,1 +1,0 @@
-"""A module for each command of radacctl: `parser` has its options, and `main` does it."""

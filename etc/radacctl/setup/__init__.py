@@ -1,1 +1,0 @@
-"""Sets a site up: what it is to be, the steps to it, and the proof that it works."""

@@ -1,0 +1,67 @@
+"""What several features look at, and no step sees: secrets, certificates, reports that wait."""
+
+import os
+import re
+import shlex
+import stat
+import time
+from ssl import cert_time_to_seconds as seconds_of
+
+from radacctd_site.core import files, machine, places
+from radacctd_site.core.steps import Fault
+
+# How long a certificate is to last, and a report may wait, in seconds.
+SOON, WAITS = 21 * 86400, 300
+
+
+def secrets(path, clients):
+    """The faults of the secrets of a file's clients, name and secret of each."""
+    seen = {}
+    for name, secret in clients:
+        if len(secret) < 16:
+            yield Fault("secret-short", f"{path}: that of {name} has {len(secret)} characters",
+                        "write a longer one there and at the device: openssl rand -hex 16")
+        if secret in seen:
+            yield Fault("secret-shared", f"{path}: {seen[secret]} and {name} have one secret",
+                        "give each its own: openssl rand -hex 16")
+        seen[secret] = name
+
+
+def open_to_others(path):
+    """The fault of a file that all users may read. Of a link it names what that leads to: root
+    types the cure.
+    """
+    path = os.path.realpath(path)
+    if os.path.exists(path) and stat.S_IMODE(os.stat(path).st_mode) & 0o007:
+        yield Fault("mode-open", f"others may read {path}", f"chmod o= {shlex.quote(path)}")
+
+
+def certificate(path, cure):
+    """The fault of a certificate that is missing, does not hold now, or ends within three weeks."""
+    text = files.linked_text(path)
+    if not text:
+        yield Fault("certificate-ended", f"{path} is missing or empty", cure)
+        return
+    said = machine.given(["openssl", "x509", "-noout", "-dates"], text, 60)
+    begin, end = re.findall("not(?:Before|After)=(.*)", said)
+    if not seconds_of(begin) <= time.time() < seconds_of(end):
+        yield Fault("certificate-ended", f"{path} holds from {begin} to {end}", cure)
+    elif seconds_of(end) < time.time() + SOON:
+        yield Fault("certificate-ends", f"{path} is over at {end}", cure)
+
+
+def oldest_kept(folder):
+    """When the oldest report in a folder of FreeRADIUS' was kept, or None. Its user, who may change
+    names there, looks. Of one that was sent the line is another one.
+    """
+    _, said = machine.run(*machine.as_user(places.RADIUS_USER), "find", folder, "-type", "f",
+                          "-exec", "grep", "-hm1", "Timestamp = ", "{}", "+")
+    return min(map(int, re.findall(r"(?m)^\tTimestamp = (\d+)$", said)), default=None)
+
+
+def waits(folder, name, whom, cure):
+    """The fault of a report that waits for too long."""
+    oldest = oldest_kept(folder)
+    if oldest is not None and time.time() - oldest > WAITS:
+        since = time.strftime("%F %T", time.localtime(oldest))
+        yield Fault(name, f"reports wait for {whom} since {since}", cure)

@@ -1,0 +1,73 @@
+"""What no step sees of the machine: units that failed, replaced programs, the clock, disks."""
+
+import glob
+import os
+import re
+import time
+
+from radacctd_site.core import Failed, machine, places
+from radacctd_site.core.steps import Fault
+from radacctd_site.setup.server import YEAR_2026
+
+# Free space that a disk is to have at least: a part, or so many octets of a large one.
+LEAST_PART, LEAST_OCTETS = 0.05, 1 << 30
+
+
+def seen():
+    yield from failed()
+    yield from old_programs()
+    yield from clock()
+    devices = {}
+    for path in (places.STATE, "/etc", places.BACKUPS, "/var/log", "/var/lib/radacctd-site"):
+        if os.path.isdir(path):
+            devices.setdefault(os.stat(path).st_dev, path)
+    for path in devices.values():
+        yield from disk(path)
+
+
+def failed():
+    said = machine.given(["systemctl", "list-units", "--plain", "--no-legend", "--state=failed",
+                          "radacctd*"], seconds=60)
+    for line in filter(None, said.splitlines()):
+        unit = line.split()[0]
+        # One that is gone runs no more. Any other one shows by a run that it is mended.
+        act = "reset-failed" if "@" in unit or "not-found" in line.split() else "start"
+        yield Fault("unit-failed", f"{unit} has failed", f"journalctl -u {unit} -n 20; once it is "
+                    f"mended: systemctl {act} {unit}")
+
+
+def old_programs():
+    """Processes whose program is no longer the file of its name."""
+    for path in glob.glob("/proc/[0-9]*/exe"):
+        try:
+            name = os.readlink(path)
+        except OSError:
+            continue
+        if re.search(r"/radacctd(?:\.dpkg\S*)? \(deleted\)$", name):
+            yield Fault("old-program", f"process {path.split('/')[2]} runs a radacctd that was "
+                        "replaced", "systemctl restart radacctd, or its own unit")
+
+
+def clock():
+    if time.time() < YEAR_2026:
+        yield Fault("clock-wrong", f"the clock says {time.strftime('%F %T')}",
+                    "timedatectl set-ntp true, or set-time")
+    try:
+        found = machine.given(["timedatectl", "show", "-p", "NTP", "-p", "NTPSynchronized"],
+                              seconds=60)
+    except Failed as why:
+        found = str(why)
+    if "NTPSynchronized=yes" not in found:
+        yield Fault("clock-unset", f"nothing keeps the clock: {' '.join(found.split())}",
+                    "apt install systemd-timesyncd, or chrony; timedatectl set-ntp true")
+
+
+def disk(path):
+    found = os.statvfs(path)
+    free, total = found.f_bavail * found.f_frsize, found.f_blocks * found.f_frsize
+    if free < LEAST_OCTETS and free < LEAST_PART * total:
+        yield Fault("disk-full", f"the disk of {path} has {free // 1_000_000} MB left",
+                    f"make space there, and delete nothing in {places.STATE}: df -h {path}")
+    if found.f_files and found.f_favail < LEAST_PART * found.f_files:
+        yield Fault("disk-full", f"the disk of {path} has {found.f_favail} inodes left",
+                    f"remove files there, and none in {places.STATE}: df -i {path}")

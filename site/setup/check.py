@@ -1,0 +1,56 @@
+"""What is wrong with a site: steps that do not hold, what no step sees, and what people try."""
+
+from radacctd_site.core import Failed, cli, features, machine
+from radacctd_site.core.steps import Fault
+from radacctd_site.setup import beside, pages, server
+
+# What follows from a book that is away; another cure, which starts the server anew, could lose it.
+FOLLOW = ("balances-old", "unit-down", "differs", "reports-wait", "plan-waits")
+FIRST = "first what the line book-away says; stop and restart nothing before"
+# How long one side may be looked at, in seconds.
+LONGEST = 300
+
+
+def looked(side, name="not-seen", cure="mend it, and look again"):
+    """What one side finds. One that surprises is no reason to keep the others from the operator."""
+    found = []
+    try:
+        with machine.within(LONGEST):
+            for it in side():
+                found.append(it)
+    except (Failed, OSError, ValueError, LookupError) as why:
+        found.append(Fault(name, cli.reason(why), cure))
+    return found
+
+
+def sides(config, wanted, steps_of):
+    yield lambda: (it for step in steps_of(wanted, config) for it in step.faults())
+    yield lambda: server.seen(config)
+    yield beside.seen
+    if wanted.host:
+        yield lambda: pages.seen(wanted)
+    for part in features.modules("LOOKS").values():
+        yield lambda part=part: part.look_at(wanted, config)
+
+
+def faults(config, wanted, steps_of, tries):
+    """All of them, the gravest first. What people do is tried unless something grave is known."""
+    critical = features.meanings("CRITICAL")
+    found = [it for side in sides(config, wanted, steps_of) for it in looked(side)]
+    if not any(it.name in critical for it in found):
+        found += looked(lambda: [it for it in tries(wanted, config) if not it], "try-failed",
+                        "look at what it names")
+    if any(it.name == "book-away" for it in found):
+        found = [it._replace(cure=FIRST) if it.name in FOLLOW else it for it in found]
+    return sorted(dict.fromkeys(found), key=lambda it: (it.name != "book-away",
+                                                        it.name not in critical))
+
+
+def main(config, wanted, steps_of, tries):
+    """Prints each fault: the status."""
+    found = faults(config, wanted, steps_of, tries)
+    for it in found:
+        print(cli.plain(f"{it.name}: {it.text}. Do: {it.cure}"))
+    if not found:
+        print("nothing is wrong")
+    return 1 if found else 0

@@ -1,0 +1,50 @@
+"""Looks at a site of radacctd from another machine: python3 outside.py ADDRESS [LOCAL-ADDRESS].
+
+It says whether a firewall is between this machine and the site. A port that answers is open.
+Reports and logins of a machine that is no client get no answer: the site's list of faults then names the
+address of this machine, unless the packets never came.
+"""
+
+import socket
+import ssl
+import sys
+
+# A report and a login without a secret: the site drops them, and says from where they came.
+PACKETS = {1813: bytes([4, 1, 0, 23]) + bytes(16) + b"\x01\x03?", 1812: bytes([1, 1, 0, 23])
+           + bytes(16) + b"\x01\x03?"}
+
+
+def page(address):
+    try:
+        context = ssl.create_default_context()
+        context.check_hostname, context.verify_mode = False, ssl.CERT_NONE
+        with socket.create_connection((address, 443), 10) as it, context.wrap_socket(it):
+            return "443/tcp is open"
+    except OSError as why:
+        return f"443/tcp is shut: {why}. Let browsers through"
+
+
+def packet(address, port, own):
+    with socket.socket(socket.AF_INET6 if ":" in address else socket.AF_INET,
+                       socket.SOCK_DGRAM) as it:
+        it.bind((own, 0))
+        it.settimeout(2)
+        try:
+            it.connect((address, port))
+            it.send(PACKETS[port])
+            it.recv(4096)
+            return f"{port}/udp is open"
+        except TimeoutError:
+            return (f"{port}/udp: sent from {it.getsockname()[0]}, no answer. On the site `radacctl"
+                    " setup --check` is to name that address: if not, a firewall is between")
+        except OSError as why:
+            return f"{port}/udp is shut: {why}. Nothing listens there, or a firewall refuses"
+
+
+if __name__ == "__main__":
+    if len(sys.argv) not in (2, 3):
+        sys.exit(__doc__)
+    lines = [page(sys.argv[1]), *(packet(sys.argv[1], it, (sys.argv[2:] or [""])[0])
+                                  for it in (1812, 1813))]
+    print("\n".join(lines))
+    sys.exit(any("shut" in it for it in lines))
