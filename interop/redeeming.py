@@ -1,8 +1,6 @@
 """A guest and a cashier at the pages, by curl: a form is loaded, and sent as one who is sure."""
 
-import os
 import re
-import sys
 import tempfile
 
 import kit  # radacctd_site is found by it

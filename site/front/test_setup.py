@@ -1,7 +1,6 @@
 """What the set-up writes for FreeRADIUS, what stays as it was, and what its check sees."""
 
 import os
-import re
 import tempfile
 import time
 import tomllib

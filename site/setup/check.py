@@ -33,22 +33,33 @@ def sides(config, wanted, steps_of):
         yield lambda part=part: part.look_at(wanted, config)
 
 
-def faults(config, wanted, steps_of, tries):
-    """All of them, the gravest first. What people do is tried unless something grave is known."""
+def looked_at(make_config, wanted, steps_of, tries):
+    """The faults of each side. What people do is tried unless something grave is known."""
+    try:
+        config = make_config()
+    except Failed as why:
+        return [Fault("config-wrong", str(why), 'mend it: SITE.md, "The first fault"'),
+                *looked(server.away), *looked(beside.seen)]
     critical = features.meanings("CRITICAL")
     found = [it for side in sides(config, wanted, steps_of) for it in looked(side)]
     if not any(it.name in critical for it in found):
         found += looked(lambda: [it for it in tries(wanted, config) if not it], "try-failed",
                         "look at what it names")
+    return found
+
+
+def faults(*given):
+    """All of them, the gravest first."""
+    critical, found = features.meanings("CRITICAL"), looked_at(*given)
     if any(it.name == "book-away" for it in found):
         found = [it._replace(cure=FIRST) if it.name in FOLLOW else it for it in found]
     return sorted(dict.fromkeys(found), key=lambda it: (it.name != "book-away",
                                                         it.name not in critical))
 
 
-def main(config, wanted, steps_of, tries):
+def main(*given):
     """Prints each fault: the status."""
-    found = faults(config, wanted, steps_of, tries)
+    found = faults(*given)
     for it in found:
         print(cli.plain(f"{it.name}: {it.text}. Do: {it.cure}"))
     if not found:

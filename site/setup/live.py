@@ -108,6 +108,7 @@ BREAKS = {
     "unit-failed": ("systemd-run --unit=radacctd-broken false; sleep 1",
                     "systemctl reset-failed radacctd-broken"),
     "config-wrong": appended("\\nx = 1\\n"),
+    "config-wrong 2": appended("\\n[[\\n"),
     "plan-waits": (appended('\\n[[plan]]\\nclass = "gold"\\nblock = 1\\nunit = 1\\n')[0] +
                    f"; cp -a {start_site.ANSWERS} /root/answers; cat /root/radacctd-setup/"
                    "answers.json > /root/json; sed -i 's/\"plan\": \\[/\"plan\": [{\"class\": "

@@ -1,8 +1,8 @@
 """Looks at a site of radacctd from another machine: python3 outside.py ADDRESS [LOCAL-ADDRESS].
 
 It says whether a firewall is between this machine and the site. A port that answers is open.
-Reports and logins of a machine that is no client get no answer: the site's list of faults then names the
-address of this machine, unless the packets never came.
+Reports and logins of a machine that is no client get no answer: the site's list of faults then
+names the address of this machine, unless the packets never came.
 """
 
 import socket

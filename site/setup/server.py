@@ -43,8 +43,8 @@ def refuse_if_lost(is_new_wanted):
     if found and not is_new_wanted:
         raise Failed(
             f"this site had a book, and {places.BOOK} is not there: {'; '.join(found)}. Put it "
-            'back, or restore the copy: GONE.md, "The book is missing". An empty book has no balance of '
-            "anybody; --new-book makes one")
+            'back, or restore the copy: GONE.md, "The book is missing". An empty book has no '
+            "balance of anybody; --new-book makes one")
 
 
 def listens(answers):

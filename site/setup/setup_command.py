@@ -163,7 +163,7 @@ def main(words):
     os.umask(0o077)
     wanted = answers_of(words)
     if words.check and not words.file:
-        return check.main(Config(wanted), wanted, steps_of, tries)
+        return check.main(lambda: Config(wanted), wanted, steps_of, tries)
     # One set-up at a time. The lock ends with this process.
     lock = files.open_lock(LOCK)
     if not files.is_locked(lock):

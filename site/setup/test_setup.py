@@ -327,6 +327,12 @@ class Attacked(Folder):
         for one in (hotel(), wanted(pair={"own": "10.9.0.5", "other": "10.9.0.6"})):
             yield from setup_command.steps_of(one, config.Config(one))
 
+    def test_each_step_looks_does_and_has_a_cure(self):
+        known = {**features.meanings("CRITICAL"), **features.meanings("WARNINGS")}
+        for step in self.every():
+            self.assertTrue(step.what and step.cure and callable(step.look) and callable(step.do))
+            self.assertIn(step.name, known)
+
     def test_no_step_writes_where_a_link_leads(self):
         count = 0
         for step in self.every():
@@ -507,7 +513,7 @@ class Pages(Folder):
 class Check(Folder):
     def faults(self, *sides):
         self.patch(check, sides=lambda *_: sides)
-        return check.faults(None, None, None, lambda *_: ())
+        return check.faults(lambda: None, None, None, lambda *_: ())
 
     def test_a_side_that_surprises_keeps_no_other_one(self):
         def slow():
@@ -521,6 +527,12 @@ class Check(Folder):
         found = self.faults(wrong, slow, lambda: [steps.Fault("book-away", "x", "y")])
         self.assertEqual([it.name for it in found],
                          ["book-away", "not-seen", "copy-old", "not-seen"])
+
+    def test_a_configuration_that_cannot_be_read_is_a_fault_beside_others(self):
+        self.patch(server, away=lambda: [steps.Fault("book-away", "x", "y")])
+        self.patch(beside, seen=lambda: [steps.Fault("disk-full", "x", "y")])
+        found = check.faults(mock.Mock(side_effect=Failed("line 3")), None, None, None)
+        self.assertEqual([it.name for it in found], ["book-away", "config-wrong", "disk-full"])
 
     def test_no_cure_starts_a_server_whose_book_is_away(self):
         found = self.faults(lambda: [steps.Fault("unit-down", "x", "systemctl restart radacctd"),
