@@ -202,21 +202,16 @@ class Devices(threading.Thread):
             raise
 
     def turn(self):
+        """Hears answers, does what is due, and makes reports: some come alone, some at once."""
         for descriptor, _ in self.poller.poll(10):
-            self.hear(self.by_number[descriptor])
-        self.act()
-        if self.is_making and self.due() - self.made >= self.batch():
-            self.make_some()
-
-    def hear(self, server):
-        for sending in server.heard():
-            self.take(sending)
-
-    def act(self):
-        """Does what is due."""
-        now = time.monotonic()
-        while self.timers and self.timers[0][0] <= now:
+            for sending in self.by_number[descriptor].heard():
+                self.take(sending)
+        while self.timers and self.timers[0][0] <= time.monotonic():
             heapq.heappop(self.timers)[2]()
+        due = self.due() - self.made
+        if self.is_making and due >= (1 if self.made % 97 else 60):
+            for _ in range(due):
+                self.make()
 
     def later(self, seconds, work):
         heapq.heappush(self.timers, (time.monotonic() + seconds, next(self.order), work))
@@ -224,14 +219,6 @@ class Devices(threading.Thread):
     def due(self):
         share = (time.monotonic() - self.began) / self.seconds
         return min(self.total, int(self.total * share))
-
-    def batch(self):
-        """Some reports come alone, some at once."""
-        return 1 if self.made % 97 else 60
-
-    def make_some(self):
-        for _ in range(self.due() - self.made):
-            self.make()
 
     def take(self, sending):
         """An answer."""
