@@ -7,8 +7,8 @@ import shutil
 import page_steps
 import redeeming
 import start_site
-from front import ROOT, waits_for
-from served import check
+from front import waits_for
+from served import ROOT, check
 from service import BALANCES, BOOK, CONFIG, until
 
 PAGE = os.path.join(ROOT, "site", "copies", "README.md")
