@@ -6,10 +6,11 @@ while its book is copied, and FreeRADIUS keeps reports meanwhile. A copy gets it
 checked. `radacctl copy` alone makes one now, by radacctd-copy.service.
 """
 
+import os
 import time
 
 from radacctd_site.core import Failed, machine
-from radacctd_site.copies import kept, places, taking
+from radacctd_site.copies import book, kept, places, taking
 
 UNIT = "radacctd-copy.service"
 
@@ -23,9 +24,14 @@ def arguments(it):
 
 
 def now():
-    """By the unit, which starts the server again also if this is killed."""
+    """By the unit. What kills the unit may kill what starts the server at its end, too, as systemd
+    257 does: then the server is started here.
+    """
     begun = time.strftime("%F %T")
     status = machine.run("systemctl", "start", UNIT, seconds=86400)[0]
+    if os.path.exists(book.STOPPED):
+        os.remove(book.STOPPED)
+        machine.given(["systemctl", "start", book.UNIT])
     print(machine.given(["journalctl", "-u", UNIT, "-t", "radacctl", "--since", begun, "-o", "cat"]),
           end="")
     if status:

@@ -17,7 +17,8 @@ from unittest import mock
 
 from radacctd_site.core import Failed, machine, places as of_core, steps
 from radacctd_site.copies.kept import sum_of
-from radacctd_site.copies import book, kept, looks, owners, places, postgres, restoring, taking
+from radacctd_site.copies import (
+    book, copy_command, kept, looks, owners, places, postgres, restoring, taking)
 
 subprocess_run = subprocess.run
 # Two users of Debian's who have nothing, in the place of radacctd's.
@@ -207,6 +208,14 @@ class Taking(Site):
         self.assertEqual(self.calls, [["stop", book.UNIT], ["start", book.UNIT]])
         self.assertIn("forward --config /etc/radacctd.toml --db", text_of(f"{self.top}/said"))
         self.assertIn("--oldest-report 60 --before 90 --keep books", text_of(f"{self.top}/said"))
+
+    def test_no_server_stays_stopped_for_a_copy_whose_unit_was_killed(self):
+        open(book.STOPPED, "w").close()
+        self.patch(machine, run=lambda *_, **__: (1, ""),
+                   given=lambda words: self.calls.append(words[:3]) or "")
+        self.assertRaises(Failed, copy_command.now)
+        self.assertEqual(self.calls[0], ["systemctl", "start", book.UNIT])
+        self.assertFalse(os.path.exists(book.STOPPED))
 
     def test_a_server_that_was_stopped_stays_so(self):
         with mock.patch.object(machine, "is_active", lambda _: False):
