@@ -99,8 +99,11 @@ def journal(unit):
 
 
 def as_user(user):
-    """What runs a command as a user, without root's terminal and environment."""
-    return [places.part("as-owner"), "--as", user]
+    """What runs a command as a user, without root's terminal. `ran` gives it no environment of
+    root's, and no other open file.
+    """
+    return ["setsid", "--wait", "setpriv", "--reuid", user, "--regid", user, "--init-groups",
+            "--no-new-privs", "--"]
 
 
 def text_of(user, path):
