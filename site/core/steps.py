@@ -155,6 +155,9 @@ class File(Step):
     def rights(self):
         return *ids(self.owner, self.group), self.mode
 
+    def test(self, path):
+        """Failed says why what is at a path may not take the file's place."""
+
     def look(self):
         old, status = self.found()
         return old is not None and old == self.wanted(old) and self.rights() == rights_of(status)
@@ -171,10 +174,13 @@ class File(Step):
             os.fchown(handle, *rights[:2])
             os.fchmod(handle, rights[2])
 
+        def ready():
+            self.test(self.path + files.NEW)
+            if self.keeps and old is not None and old != new:
+                keep(folder, name)
+
         with placed(self.path) as (folder, name), told(Failed, f"cannot write {self.path}: "):
-            is_kept = self.keeps and old is not None and old != new
-            before = (lambda: keep(folder, name)) if is_kept else lambda: None
-            files.replace_in(folder, name, new, rights=give, before=before)
+            files.replace_in(folder, name, new, rights=give, before=ready)
 
 
 def keep(folder, name):

@@ -29,7 +29,9 @@ class Proof:
         self.has_login = not answers.sql
         # A sale is in one book, and a report in both: one of them would have a debt.
         self.sells = self.plan["unit"] and not answers.pair
-        self.desk, self.key = config.desk(), config.keys["site"]
+        self.settings, self.key = files.text(f"{RADDB}/settings.conf"), config.keys["site"]
+        host, _, port = clients.value(self.settings, "desk").rpartition(":")
+        self.desk = host, int(port)
 
     def tries(self):
         left, stamp = self.asked()
@@ -62,7 +64,7 @@ class Proof:
 
     def asked(self):
         """What radacctd's desk says to FreeRADIUS: the octets that the account may use, a stamp."""
-        key = clients.value(files.text(f"{RADDB}/settings.conf"), "key")
+        key = clients.value(self.settings, "key")
         path, said = f"/logins/{TEST_NAME}/default", []
 
         def is_answered():
@@ -122,13 +124,12 @@ class Proof:
         """What radclient prints of a packet of the set-up's own client, which it sends twice. The
         secret is in a file of memory, and in no command line.
         """
-        settings = files.text(f"{RADDB}/settings.conf")
-        address = clients.value(settings, "address").replace("*", "127.0.0.1")
+        address = clients.value(self.settings, "address").replace("*", "127.0.0.1")
         lines = [*lines, f"Packet-Src-IP-Address = {TEST_ADDRESS}",
                  f"NAS-IP-Address = {TEST_ADDRESS}"]
         with tempfile.TemporaryDirectory(dir="/run") as folder:
             path = os.path.join(folder, "secret")
             files.make(path, clients.secret_of(TEST_NAME).encode() + b"\n")
             words = ["radclient", "-r", "2", "-t", "3", "-x", "-S", path,
-                     f"{address}:{clients.value(settings, port)}", act]
+                     f"{address}:{clients.value(self.settings, port)}", act]
             return machine.run(*words, text="\n".join(lines) + "\n")[1]

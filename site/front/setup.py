@@ -8,7 +8,7 @@ import os
 import re
 import tempfile
 
-from radacctd_site.core import Failed, files as on_disk, machine, places
+from radacctd_site.core import Failed, corrections, files as on_disk, machine, places
 from radacctd_site.core.steps import Command, File, Folder, Step, Unit, is_fresh
 from radacctd_site.front import clients, proof, users
 from radacctd_site.front.clients import RADDB, SECRETS
@@ -144,8 +144,8 @@ def code_key(answers):
 def settings(old, config):
     """settings.conf with radacctd's address, key and secret; what a site has changed stays."""
     text = old or own("raddb/settings.conf")
-    known = {"desk": "{}:{}".format(*config.desk()), "key": config.keys["logins"],
-             "book_port": config.port(), "book_secret": config.clients["front"]["secret"],
+    known = {"key": config.keys["logins"], "book_port": corrections.where()[1],
+             "book_secret": config.clients["front"]["secret"],
              "code_key": on_disk.text(CODES).strip()}
     for name, it in known.items():
         text = with_value(text, name, it)

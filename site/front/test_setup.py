@@ -73,13 +73,13 @@ class CutOff(unittest.TestCase):
 
 class Settings(unittest.TestCase):
     def config(self):
-        return mock.Mock(keys={"logins": "l" * 32}, clients={"front": {"secret": "b" * 32}},
-                         desk=lambda: ("127.0.0.1", 8066), port=lambda: "11813")
+        return mock.Mock(keys={"logins": "l" * 32}, clients={"front": {"secret": "b" * 32}})
 
     def written(self, old):
         text = files.text
-        with mock.patch.object(files, "text",
-                               lambda path: "c" * 32 + "\n" if path == setup.CODES else text(path)):
+        with mock.patch.object(setup.corrections, "where", lambda: ("127.0.0.1", 11813)), \
+                mock.patch.object(files, "text", lambda path: (
+                    "c" * 32 + "\n" if path == setup.CODES else text(path))):
             return setup.settings(old, self.config())
 
     def test_radacctds_values_are_written_and_the_sites_stay(self):

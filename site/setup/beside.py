@@ -3,6 +3,7 @@
 import glob
 import os
 import re
+import shutil
 import time
 
 from radacctd_site.core import Failed, machine, places
@@ -63,11 +64,7 @@ def clock():
 
 
 def disk(path):
-    found = os.statvfs(path)
-    free, total = found.f_bavail * found.f_frsize, found.f_blocks * found.f_frsize
-    if free < LEAST_OCTETS and free < LEAST_PART * total:
-        yield Fault("disk-full", f"the disk of {path} has {free // 1_000_000} MB left",
+    found = shutil.disk_usage(path)
+    if found.free < LEAST_OCTETS and found.free < LEAST_PART * found.total:
+        yield Fault("disk-full", f"the disk of {path} has {found.free // 1_000_000} MB left",
                     f"make space there, and delete nothing in {places.STATE}: df -h {path}")
-    if found.f_files and found.f_favail < LEAST_PART * found.f_files:
-        yield Fault("disk-full", f"the disk of {path} has {found.f_favail} inodes left",
-                    f"remove files there, and none in {places.STATE}: df -i {path}")

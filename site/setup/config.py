@@ -14,8 +14,8 @@ HEAD = """\
 DEBIT = {"class": corrections.CLASS, **corrections.WANTED}
 # FreeRADIUS' reports of somebody whom nobody let in have it.
 FREE = {"class": "free", "block": 1_000_000, "unit": 0, "count": "both"}
-# The desk, and where FreeRADIUS reports to, which has the usual port itself.
-DESK, PORT, BESIDE_FREERADIUS = ("127.0.0.1", 8066), "1813", "11813"
+# Where FreeRADIUS reports to, which has the usual port itself.
+BESIDE_FREERADIUS = 11813
 
 
 class Config:
@@ -117,16 +117,6 @@ class Config:
             raise Failed(f"{places.CONFIG} was changed meanwhile: give the command again")
         return text
 
-    def port(self):
-        """The port of reports, as the service has it. What a person wrote counts."""
-        usual = BESIDE_FREERADIUS if self.answers.has_front else PORT
-        return corrections.settings().get("RADACCTD_RADIUS_PORT") or usual
-
-    def desk(self):
-        found = corrections.settings()
-        host = found.get("RADACCTD_DESK_BIND") or DESK[0]
-        return host.replace("0.0.0.0", "127.0.0.1"), int(found.get("RADACCTD_DESK_PORT") or DESK[1])
-
 
 class ConfigFile(File):
     """The configuration: it takes its place only if radacctd finds it right."""
@@ -135,36 +125,17 @@ class ConfigFile(File):
 
     def __init__(self, config):
         super().__init__(places.CONFIG, config.wanted, 0o640, places.SERVER_USER)
-        self.new = self.path + ".setup"
 
     def look(self):
-        fault = fault_of(self.path) if os.path.exists(self.path) else ""
-        if fault:
-            raise Failed(fault)
+        if os.path.exists(self.path):
+            self.test(self.path)
         return super().look()
 
-    def do(self):
-        old, _ = self.found()
-        new = self.wanted(old)
-        if new != old:
-            # It has the rights that radacctd's user needs to check it.
-            trial = File(self.new, new.decode("utf-8", "surrogateescape"), 0o640,
-                         places.SERVER_USER, keeps=False)
-            trial.do()
-            fault = fault_of(self.new)
-            files.remove(self.new)
-            if fault:
-                raise Failed(f"{self.path} stays as it is, since it would be wrong: {fault}")
-        self.write(new, old)
-
-    def undo(self):
-        files.remove(self.new)
-
-
-def fault_of(path):
-    """What radacctd says against a configuration, or ""."""
-    status, said = machine.run(places.PROGRAM, "check", "--config", path, "--explain")
-    return machine.last_line(said) if status else ""
+    def test(self, path):
+        """What radacctd says against it is why it stays as it was."""
+        status, said = machine.run(places.PROGRAM, "check", "--config", path, "--explain")
+        if status:
+            raise Failed(machine.last_line(said))
 
 
 def plan_step(config):

@@ -209,15 +209,18 @@ class Configuration(Folder):
     def test_a_wrong_one_takes_no_place(self):
         self.patch(places, SERVER_USER="root")
         made = self.made(wanted(), "# mine\n")
-        step = config.ConfigFile(made)
-        seen = []
-        fault = lambda path: seen.append(stat.S_IMODE(os.stat(path).st_mode)) or "line 3"
-        with mock.patch.object(config, "fault_of", fault):
+        step, seen = config.ConfigFile(made), []
+
+        def run(*words):
+            # Not even for a moment could others read its secrets.
+            seen.append(stat.S_IMODE(os.stat(words[3]).st_mode))
+            return 1, "line 3"
+
+        with mock.patch.object(machine, "run", run):
             self.assertRaisesRegex(Failed, "line 3", step.do)
-        # Not even for a moment could others read its secrets.
         self.assertEqual((self.read(), seen), (b"# mine\n", [0o640]))
         self.assertEqual(os.listdir(self.folder), ["file"])
-        with mock.patch.object(config, "fault_of", lambda _: ""):
+        with mock.patch.object(machine, "run", lambda *_: (0, "")):
             step.do()
             self.assertTrue(step.look())
         self.assertEqual(len(self.kept()), 1)
