@@ -3,7 +3,8 @@
 SETUP, LOOKS = "setup", "looks"
 CRITICAL = {
     "device-secret": "FreeRADIUS ignores a device: the device has another secret",
-    "front-wrong": "FreeRADIUS trusts every address, or radacctd does not know whom it reports for",
+    "front-wrong": "FreeRADIUS lets in whom it should not, or radacctd does not know who pays",
+    "users-away": "the database of users does not answer: logins are refused",
     "reports-wait": "reports wait for radacctd, and are not answered",
 }
 WARNINGS = {"reports-aside": "radacctd does not take some reports, and nobody was charged"}

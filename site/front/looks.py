@@ -3,6 +3,7 @@ devices that it ignores, reports that wait.
 """
 
 import re
+import socket
 
 from radacctd_site.core import files, looks, machine
 from radacctd_site.core.steps import Fault
@@ -26,6 +27,7 @@ def look_at(answers, config):
     yield from looks.certificate(f"{setup.CERTS}/server.pem",
                                  f"remove {setup.CERTS}, and give radacctl setup")
     yield from everybody(answers)
+    yield from users_away(answers.sql) if answers.sql else ()
     yield from ignored()
     yield from kept()
     client = config.clients["front"]
@@ -46,14 +48,26 @@ def secrets():
 
 
 def everybody(answers):
-    """A client that is every address, or a login without a password: anybody is let in."""
+    """A client that is every address, a login without a password, or a week of counting alone."""
     for name, text in clients.known():
         if re.fullmatch(r"(0\.0\.0\.0|::|\*)(/0)?", clients.value(text, "ipaddr")):
             yield Fault("front-wrong", f"client {name} of {RADDB}/clients.conf is every address",
                         f"write the access servers' own addresses; {RESTART}")
+    if clients.value(files.text(f"{RADDB}/settings.conf"), "observe") == "yes":
+        yield Fault("front-wrong", "observe = yes: whoever was proved is let in, without a quota",
+                    f"once you have seen enough, write observe = no into settings.conf; {RESTART}")
     for name in users.open_to_all() if not answers.sql else ():
         yield Fault("front-wrong", f"{name} in {users.FILE} logs in without a password",
                     "give it one, or remove its row of radcheck")
+
+
+def users_away(sql):
+    """A database of users that does not answer: FreeRADIUS refuses all logins."""
+    try:
+        socket.create_connection((sql["server"], sql["port"]), 5).close()
+    except OSError as why:
+        yield Fault("users-away", f"the database of users at {sql['server']}, port {sql['port']}, "
+                    f"does not answer: {why}", "start it, or look at the way to it")
 
 
 def ignored():

@@ -1,6 +1,7 @@
 """What the set-up writes for FreeRADIUS, what stays as it was, and what its check sees."""
 
 import os
+import socket
 import tempfile
 import time
 import tomllib
@@ -169,8 +170,15 @@ class Looks(unittest.TestCase):
             with mock.patch.object(machine, "run", lambda *_, it=said: (1, it)):
                 self.assertEqual(of_core.oldest_kept("/x"), found)
 
+    def test_a_database_of_users_that_is_away_is_told(self):
+        with socket.create_server(("127.0.0.1", 0)) as server:
+            place = {"server": "127.0.0.1", "port": server.getsockname()[1]}
+            self.assertEqual(list(looks.users_away(place)), [])
+        self.assertEqual([it.name for it in looks.users_away(place)], ["users-away"])
+
     def test_what_lets_anybody_in_is_told(self):
-        for address, count in (("0.0.0.0/0", 1), ("*", 1), ("::/0", 1), ("10.0.0.0/8", 0)):
+        for address, count in (("0.0.0.0/0", 1), ("*", 1), ("::/0", 1), ("10.0.0.0/8", 0),
+                               ("10.0.0.0/8\n\tobserve = yes", 1)):
             text = f"client x {{\n\tipaddr = {address}\n}}\n"
             with mock.patch.object(files, "text", lambda _, it=text: it), \
                     mock.patch.object(users, "sql", lambda _: ""):

@@ -12,7 +12,7 @@ CRITICAL = {
     "clock-wrong": "the clock is before what the site wrote, or before 2026",
     "drop-secret": "an access server has another secret than radacctd",
     "nginx-wrong": "nginx' configuration has a fault, or its page is not that of the set-up",
-    "certificate-ended": "a certificate does not hold now, or is not there",
+    "certificate-ended": "a certificate does not hold now, is not there, or of another host",
     "try-failed": "a login, a report, a sale or a page that was tried is not answered as it should",
 }
 WARNINGS = {

@@ -143,10 +143,13 @@ BREAKS = {
                         f"0.0.0.0/0|' {FRONT}/clients.conf", RESTART),
     "front-wrong 2": row("Auth-Type", "Accept"),
     "front-wrong 3": row("Cleartext-Password", ""),
+    "front-wrong 4": edited("s/observe = no/observe = yes/", SETTINGS, RESTART),
     "reports-wait": waiting("waits"),
     "reports-aside": waiting("aside"),
     "nginx-wrong": ("echo 'x y' > /etc/nginx/conf.d/zz.conf", "rm /etc/nginx/conf.d/zz.conf"),
     "certificate-ended": kept("/etc/ssl/radacctd.pem", "rm /etc/ssl/radacctd.pem"),
+    "certificate-ended 2": kept("/etc/ssl/radacctd.pem", "openssl req -x509 -days 300 -subj /CN=x "
+                                "-key /etc/ssl/private/radacctd.key -out /etc/ssl/radacctd.pem"),
     "certificate-ends": kept(CERTIFICATE, f"openssl req -x509 -key {FRONT}/certs/server.key "
                              "-days 5 "
                              f"-subj /CN=x -out {CERTIFICATE}", RESTART),
@@ -260,7 +263,8 @@ def main():
     for it in ("setup", "front", "copies"):
         with open(f"{ROOT}/site/{it}/feature.py", encoding="utf-8") as file:
             known |= set(re.findall(r'"([a-z-]+)": "', file.read()))
-    check("each fault has a row here", named ^ known, set())
+    # A database of users that is away: interop/start campus.
+    check("each fault has a row here", named ^ known, {"users-away"})
     print("failed:", served.failures)
     return 1 if served.failures else 0
 

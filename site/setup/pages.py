@@ -72,6 +72,11 @@ def page(answers):
     return text
 
 
+def is_of(host, path):
+    said = machine.given(["openssl", "x509", "-noout", "-checkhost", host], files.linked_text(path))
+    return "does match" in said
+
+
 class Certificate(Step):
     """A certificate of the host, of which browsers warn. One that somebody else signed stays."""
 
@@ -153,6 +158,9 @@ def seen(answers):
     found = list(looks.certificate(path, "renew it, then: systemctl reload nginx"))
     yield from found
     yield from looks.open_to_others(answers.certificate_key or PRIVATE_KEY)
+    if not found and not is_of(answers.host, path):
+        yield Fault("certificate-ended", f"{path} is not of {answers.host}: browsers warn of it",
+                    "get one of that name; then: systemctl reload nginx")
     if not found and serves_another(answers.host, path):
         yield Fault("certificate-old", f"nginx serves another certificate than {path}",
                     "systemctl reload nginx")
