@@ -51,12 +51,21 @@ def run(words, **more):
     return done.returncode, done.stdout + done.stderr
 
 
-def staged(folder):
-    """Makes the package in a folder of this machine: radacctd.deb."""
+def staged(folder, without=()):
+    """Makes the package in a folder of this machine: radacctd.deb. `without` names what is removed
+    from the tree before.
+    """
     if "RADACCTD" not in os.environ:
         command_line.must_be_built()
     root = os.path.dirname(os.path.dirname(os.path.abspath(__file__)))
-    status, text = run([f"{root}/bin/package", folder])
+    with tempfile.TemporaryDirectory() as copy:
+        tree = root
+        if without:
+            tree = shutil.copytree(root, f"{copy}/tree", symlinks=True,
+                                   ignore=shutil.ignore_patterns(".git", "target"))
+            for name in without:
+                shutil.rmtree(f"{tree}/{name}")
+        status, text = run([f"{tree}/bin/package", folder])
     if status:
         raise SystemExit(f"bin/package ended with {status}: {text}")
     os.rename(text.split("\n")[0], f"{folder}/radacctd.deb")
