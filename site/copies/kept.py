@@ -93,7 +93,7 @@ def check(folder):
     """
     found = listed(folder)
     with looked_at(folder) as book:
-        status, said = machine.run(of_kit.part("radacctd"), "check", *book, "--audit", seconds=86400)
+        status, said = machine.run(of_kit.binary(), "check", *book, "--audit", seconds=86400)
         if status:
             raise Unsound(f"{folder}: the book is not sound: {machine.last_line(said)}")
     for path in found["stores"]:

@@ -110,7 +110,7 @@ def export(folder, name):
     with kept.looked_at(folder) as words:
         for what in ("sessions", "balances", "topups"):
             with gzip.open(f"{new}/{what}.csv.gz", "wb") as file, subprocess.Popen(
-                    [of_kit.part("radacctd"), "export", what, *words],
+                    [of_kit.binary(), "export", what, *words],
                     stdout=subprocess.PIPE) as it:
                 shutil.copyfileobj(it.stdout, file)
             if it.returncode:

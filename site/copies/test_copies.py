@@ -91,8 +91,7 @@ class Site(unittest.TestCase):
                    READERS=f"{top}/etc/recipients")
         self.patch(book, STOPPED=f"{top}/stopped")
         self.patch(machine, refuse_if_away=lambda: None, is_active=lambda _: True)
-        part = of_core.part
-        self.patch(of_core, part=lambda it: f"{top}/program" if it == "radacctd" else part(it))
+        self.patch(of_core, binary=lambda: f"{top}/program")
         self.patch(postgres, settings=lambda: {})
         given = machine.given
         self.patch(machine, given=lambda words, *more: self.calls.append(words[1:]) if words[0] in (

@@ -11,7 +11,6 @@ from radacctd_site.core import Failed, corrections, told
 
 # The number of a voucher, and a key.
 NUMBER, TOKEN = re.compile("[A-Z0-9-]{1,32}"), re.compile("[A-Za-z0-9-]{16,64}")
-CASHIER_KEY = "/etc/radacctd-cashier.key"
 # The longest list of what an account has, in octets.
 LONGEST_LIST = 1 << 26
 # What became of a voucher.

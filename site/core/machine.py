@@ -1,6 +1,7 @@
 """Programs of the machine, run as root or as another user; units of systemd."""
 
 import contextlib
+import os
 import re
 import signal
 import subprocess
@@ -12,16 +13,12 @@ ENVIRONMENT = {"PATH": "/usr/sbin:/usr/bin:/sbin:/bin", "LC_ALL": "C.UTF-8", "LA
                "DEBIAN_FRONTEND": "noninteractive"}
 
 
-class Late(Failed):
-    """What was ended since it took too long."""
-
-
 @contextlib.contextmanager
 def within(seconds):
     """Ends what goes on for longer: a disk or a desk that gives an octet now and then, say."""
 
     def ended(*_):
-        raise Late(f"it took more than {seconds} seconds")
+        raise Failed(f"it took more than {seconds} seconds")
 
     before = signal.signal(signal.SIGALRM, ended)
     signal.alarm(seconds)
@@ -114,6 +111,32 @@ def text_of(user, path):
     return done.stdout
 
 
+def has_open(process, path):
+    """Whether a process has the file open that is at a name now."""
+    try:
+        wanted, folder = os.stat(path), f"/proc/{process}/fd"
+        return any(os.path.samestat(os.stat(f"{folder}/{it}"), wanted) for it in os.listdir(folder))
+    except FileNotFoundError:
+        # One that ended or closed a file meanwhile is looked at again by who asks.
+        return False
+
+
+def is_away(unit="radacctd.service"):
+    """Whether the book or the log of a server that runs is not where its name leads: it answers
+    nothing, and what was removed ends with it.
+    """
+    def is_there():
+        found = properties(unit, "ActiveState", "MainPID")
+        return found["ActiveState"] not in ("active", "reloading") or all(
+            has_open(found["MainPID"], os.path.realpath(places.BOOK) + it) for it in ("", "-wal"))
+
+    # A server that is restarted meanwhile is no book that is away.
+    return not until(is_there, 0.6, 0.3)
+
+
 def refuse_if_away():
     """No server is stopped whose book is not where its name leads: that could lose it."""
-    given([places.part("book-is-there"), "radacctd.service", places.BOOK])
+    if is_away():
+        raise Failed(f"the book of radacctd.service is not at {places.BOOK}: it was moved, removed "
+                     "or replaced. Do not stop or restart it, which would lose what was removed: "
+                     'GONE.md, "The book is missing"')

@@ -8,12 +8,7 @@ import sys
 from radacctd_site.core import Failed, features
 
 
-def arguments(it):
-    del it
-
-
-def main(words):
-    del words
+def main(_):
     failed = 0
     for does in features.functions("EACH_NIGHT"):
         try:

@@ -9,7 +9,6 @@ TOP = os.path.dirname(os.path.dirname(os.path.realpath(__file__)))
 # Installed, the kit is beside the programs that it runs, in lib; else it is in the repository.
 IS_INSTALLED = os.path.basename(TOP) == "radacctd_site"
 ABOVE = os.path.dirname(TOP)
-PARTS = ABOVE if IS_INSTALLED else f"{ABOVE}/etc"
 SBIN = os.path.normpath(f"{ABOVE}/../../sbin") if IS_INSTALLED else f"{ABOVE}/bin"
 # What runs radacctd as the user of its service if root calls it, and the kit's command.
 PROGRAM, RADACCTL = f"{SBIN}/radacctd", f"{SBIN}/radacctl"
@@ -33,10 +32,9 @@ KEY, SECRET = (os.path.join(os.environ.get("CREDENTIALS_DIRECTORY", "/etc"), it)
                for it in ("radacctd-site.key", "radacctd-books.secret"))
 
 
-def part(name):
-    """The path of a program that stands next to the kit."""
-    path = f"{ABOVE}/crates/radacctd/out/radacctd" if name == "radacctd" and not IS_INSTALLED \
-        else f"{PARTS}/{name}"
+def binary():
+    """The path of radacctd itself, which runs as who calls it."""
+    path = f"{ABOVE}/radacctd" if IS_INSTALLED else f"{ABOVE}/crates/radacctd/out/radacctd"
     if not os.access(path, os.X_OK):
         raise Failed(f"{path} is missing: install radacctd again")
     return path

@@ -122,11 +122,8 @@ def seen(config):
 def away():
     """The names of book and log lead to the server's files."""
     unit, page = "radacctd.service", 'GONE.md, "The book is missing"'
-    status, said = machine.run(places.part("book-is-there"), unit, places.BOOK)
-    if status not in (0, 1):
-        raise Failed(machine.last_line(said))
     is_active = machine.is_active(unit)
-    if status:
+    if machine.is_away():
         yield Fault("book-away", f"{unit} answers nothing: {places.BOOK} or its log was moved, "
                           "removed or replaced", "do not stop or restart it: what was removed ends "
                           f"with it. Put it back, or copy it from the server that runs: {page}")

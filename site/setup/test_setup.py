@@ -7,6 +7,7 @@ import json
 import os
 import pwd
 import re
+import shlex
 import shutil
 import stat
 import subprocess
@@ -387,6 +388,43 @@ class Attacked(Folder):
         self.assertEqual(machine.text_of(ATTACKER, path), "theirs\n")
         files.give(path, ATTACKER, pwd.getpwnam(ATTACKER).pw_gid, 0o640)
         self.assertEqual(stat.S_IMODE(os.stat(path).st_mode), 0o640)
+
+    def test_what_runs_as_a_user_has_nothing_of_roots(self):
+        with mock.patch.dict(os.environ, {"ROOTS_PASSWORD": "secret"}):
+            look = "id -un; id -Gn; env; grep NoNewPrivs /proc/self/status; : </dev/tty"
+            words = [*machine.as_user(ATTACKER), "sh", "-c", look]
+            # `script` has a terminal for it, as root has.
+            said = machine.run("script", "-qec", shlex.join(words), "/dev/null")[1].split()
+        self.assertEqual(said[:2], [ATTACKER, ATTACKER])
+        self.assertEqual(said[said.index("NoNewPrivs:") + 1], "1")
+        self.assertIn("/dev/tty:", said)
+        self.assertNotIn("ROOTS_PASSWORD=secret", said)
+
+
+class Book(Folder):
+    def setUp(self):
+        super().setUp()
+        self.patch(places, BOOK=f"{self.folder}/book")
+        self.found = {"ActiveState": "active", "MainPID": str(os.getpid())}
+        self.patch(machine, properties=lambda *_: self.found)
+        for end in ("", "-wal"):
+            self.write(b"", 0o600, places.BOOK + end)
+            self.enterContext(open(places.BOOK + end, "rb"))
+
+    def test_a_book_that_was_moved_or_replaced_is_away(self):
+        machine.refuse_if_away()
+        for end in ("-wal", ""):
+            os.rename(places.BOOK + end, f"{self.folder}/other")
+            self.assertTrue(machine.is_away())
+            self.write(b"", 0o600, places.BOOK + end)
+            self.assertRaisesRegex(Failed, "Do not stop", machine.refuse_if_away)
+            os.rename(f"{self.folder}/other", places.BOOK + end)
+            self.assertFalse(machine.is_away())
+
+    def test_a_server_that_does_not_run_has_none(self):
+        self.found["ActiveState"] = "failed"
+        os.remove(places.BOOK)
+        machine.refuse_if_away()
 
 
 class Site(Folder):
