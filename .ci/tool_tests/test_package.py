@@ -7,7 +7,7 @@ import unittest
 
 from tool_tests import ROOT
 
-DROP_IN = "debian/radacctd-.service.d/shut-in.conf"
+DROP_IN = "debian/10-shut-in.conf"
 # What each service has, and what only those have that are not root's and are no FreeRADIUS.
 SHUT_IN = """NoNewPrivileges SystemCallArchitectures SystemCallErrorNumber MemoryDenyWriteExecute
     LockPersonality RestrictNamespaces RestrictRealtime RestrictSUIDSGID KeyringMode ProtectSystem
@@ -40,10 +40,8 @@ class Version(unittest.TestCase):
 
 
 def settings(name, path):
-    """What systemd takes of a service: its own lines, and those of all whose name has a hyphen."""
-    found = text(path).replace("\\\n", " ")
-    if "-" in name:
-        found += text(DROP_IN)
+    """What systemd takes of a service: its own lines, and those of all."""
+    found = text(path).replace("\\\n", " ") + (text(DROP_IN) if name else "")
     lines = [line.partition("=") for line in found.splitlines() if line[:1] not in ("#", "[", "")]
     return [(it, " ".join(value.split())) for it, _, value in lines]
 
@@ -83,7 +81,7 @@ class Units(unittest.TestCase):
         """The lines of all are read last, and would win."""
         of_all = {it for it, _ in settings("", DROP_IN)}
         for name, path in self.PATHS.items():
-            if name != "radacctd.service" and name.endswith(".service"):
+            if name.endswith(".service"):
                 self.assertEqual(of_all & {it for it, _ in settings("", path)}, set(), name)
 
 
