@@ -299,8 +299,7 @@ class Languages(Site):
         wanted |= {it.title for name in ("MENU", "OF_ACCOUNT") for it in features.listed(name)}
         self.assertGreater(len(wanted), 10)
         for language in ("de", "fr"):
-            with open(f"{features.TOP}/locale/{language}.po", encoding="utf-8") as file:
-                known = entries_of(file.read())
+            known = web.texts(language)
             self.assertEqual(wanted - set(known), set(), language)
             for text, said in known.items():
                 holes = [sorted(re.findall(r"%\(\w+\)s", it)) for it in (text, said)]
@@ -313,11 +312,6 @@ def joined(text):
 
 
 def texts_of(source):
-    """The texts that a source hands to gettext: their parts stand behind each other."""
+    """The texts that a source has for its reader: their parts stand behind each other."""
     part = r'((?:\s*"(?:[^"\\]|\\.)*")+)'
     return {joined(it) for it in re.findall(rf"(?:\b_|\btext)\({part}", source)}
-
-
-def entries_of(text):
-    found = re.findall(r'msgid ((?:"[^\n]*"\s*)+)msgstr ((?:"[^\n]*"\s*)+)', text)
-    return {joined(one): joined(other) for one, other in found if joined(one)}

@@ -7,7 +7,7 @@ import subprocess
 import tempfile
 import unittest
 
-from radacctd_site.core import features, test_core
+from radacctd_site.core import features, test_core, web
 
 # Runs the tests of who may ask for which page, shows the commands, and lists the steps of a set-up,
 # of a kit in a folder.
@@ -51,12 +51,9 @@ class Removed(unittest.TestCase):
             with open(path, encoding="utf-8") as file:
                 sources += "" if os.path.basename(path).startswith("test_") else file.read()
         wanted = test_core.texts_of(sources)
-        for language in ("de", "fr"):
-            with open(f"{features.TOP}/locale/{language}.po", encoding="utf-8") as file:
-                known = set(test_core.entries_of(file.read()))
-            # What a variable says, or a menu, is a text of its own.
-            left = [it for it in known - wanted if f'"{it}"' not in sources]
-            self.assertEqual(left, [], language)
+        # What a variable says, or a menu, is a text of its own.
+        left = [it for it in set(web.texts("de")) - wanted if f'"{it}"' not in sources]
+        self.assertEqual(left, [])
 
     def test_the_core_names_no_feature(self):
         for path in glob.glob(f"{features.TOP}/core/*"):

@@ -4,8 +4,8 @@ nginx hands requests on by a unix socket, with the address of who asks in X-Real
 a feature, which says who may ask for it; nothing is answered that is not in that table.
 """
 
+import csv
 import functools
-import gettext
 import hashlib
 import re
 import secrets
@@ -34,7 +34,9 @@ bottle.BaseRequest.MEMFILE_MAX = 4096
 
 @functools.cache
 def texts(language):
-    return gettext.translation(features.NAME, f"{TOP}/locale", [language], fallback=True)
+    """What each English text of a page is in a language."""
+    with open(f"{TOP}/locale/texts.csv", encoding="utf-8", newline="") as file:
+        return {row["en"]: row[language] for row in csv.DictReader(file)}
 
 
 @functools.cache
@@ -42,7 +44,7 @@ def environment(language):
     """The templates of all features, with the texts of a language."""
     found = jinja2.Environment(loader=jinja2.FileSystemLoader(TOP), autoescape=True,
                                extensions=["jinja2.ext.i18n"], undefined=jinja2.StrictUndefined)
-    found.install_gettext_translations(texts(language), newstyle=True)
+    found.install_gettext_callables(lambda it: texts(language).get(it, it), None, newstyle=True)
     return found
 
 
@@ -71,7 +73,7 @@ class Visit:
 
     def text(self, text, **values):
         """A text in the reader's language."""
-        found = texts(self.language).gettext(text)
+        found = texts(self.language).get(text, text)
         return found % values if values else found
 
     def why_not(self, account):

@@ -54,7 +54,7 @@ class Guests(Card):
 
     def test_in_german(self):
         page = self.guest(HTTP_ACCEPT_LANGUAGE="de").text
-        self.assertIn("6,50\u00a0EUR", page)
+        self.assertIn("6,50\u00a0EUR übrig", page)
 
     def test_a_key_of_an_address_leaves_it(self):
         browser = self.guest()
