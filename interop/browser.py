@@ -13,9 +13,6 @@ import urllib.request
 
 from served import free_port
 
-# As an operator sees it: a phone of 320 pixels, and a screen.
-PHONE, SCREEN = (320, 640), (1000, 800)
-
 # Each text of the page whose contrast with its background is below 4.5, by WCAG 2.1.
 CONTRAST = r"""
 const parts = (colour) => colour.match(/[\d.]+/g).map(Number);
@@ -58,7 +55,7 @@ class Browser:
             )
         flags = ["--headless=new", "--no-sandbox", "--disable-gpu", "--disable-dev-shm-usage"]
         flags += [f"--user-data-dir={self.profile}", f"--lang={language}"]
-        flags += ["--window-size=%d,%d" % SCREEN]
+        flags += ["--window-size=1000,800"]
         options = {"args": flags, "prefs": {"intl.accept_languages": language}}
         always = {"acceptInsecureCerts": True, "goog:chromeOptions": options}
         for _ in range(100):

@@ -8,8 +8,8 @@ import page_steps
 import redeeming
 import start_site
 from front import waits_for
-from served import ROOT, check
-from service import BALANCES, BOOK, CONFIG, until
+from served import ROOT, check, until
+from service import BALANCES, BOOK, CONFIG
 
 PAGE = os.path.join(ROOT, "site", "copies", "README.md")
 FRONT, HOST = start_site.FRONT, start_site.HOST

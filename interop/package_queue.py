@@ -7,8 +7,8 @@ import os
 import re
 
 import start_site
-from served import check
-from service import BALANCES, until
+from served import check, until
+from service import BALANCES
 
 WAITS = "/var/lib/radacctd-front/waits"
 COUNT, SOLD, BLOCK = 5, 1000, 10_000_000

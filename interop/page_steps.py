@@ -33,16 +33,3 @@ def run(it, name, commands):
     status, text = it.run("set -e\n" + commands)
     check(f"{it.title}: {name}", (status, text if status else ""), (0, ""))
     return text
-
-
-def replaced(it, path, *changes):
-    """Writes a file of a machine anew, with its mode and owner."""
-    here = it.root + path
-    with open(here, encoding="utf-8") as file:
-        text = file.read()
-    for old, new in changes:
-        if old not in text:
-            raise SystemExit(f"{path} has no {old!r}")
-        text = text.replace(old, new)
-    with open(here, "w", encoding="utf-8") as file:
-        file.write(text)

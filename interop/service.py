@@ -2,9 +2,9 @@
 
 import os
 import re
-import time
 
 import machine
+import page_steps
 from served import CASHIER, GUEST, ROOT, SECRET, check, report
 
 TOOLS = {**machine.TOOLS, "radclient": "freeradius-utils", "curl": "curl"}
@@ -13,17 +13,6 @@ CONFIG, BOOK = "/etc/radacctd.toml", "/var/lib/radacctd/book"
 DEFAULTS = "/etc/default/radacctd"
 BALANCES = "/var/lib/radacctd-balances/balances.csv"
 COUNTS = "/var/lib/radacctd-counts/radacctd.prom"
-DROP_IN = "/etc/systemd/system/radacctd.service.d/override.conf"
-
-
-def until(holds, seconds=20):
-    """Waits until something holds, and says whether it does."""
-    end = time.monotonic() + seconds
-    while time.monotonic() < end:
-        if holds():
-            return True
-        time.sleep(0.1)
-    return holds()
 
 
 class Site:
@@ -78,14 +67,6 @@ class Site:
         status, text = self.box.beside(words, input="\n".join(attributes) + "\n")
         return status == 0 and "Received Accounting-Response" in text
 
-    def drop_in(self, text):
-        """Writes a drop-in, or removes it if the text is empty."""
-        if text:
-            self.box.write(DROP_IN, text)
-        else:
-            self.box.must(f"rm -f {DROP_IN}")
-        self.box.must("systemctl daemon-reload")
-
     def stop(self):
         self.box.must("systemctl stop radacctd; systemctl reset-failed radacctd 2>/dev/null || :")
 
@@ -95,17 +76,9 @@ def put_config(site, text):
     site.box.must(f"chgrp radacctd {CONFIG}")
 
 
-def section(title):
-    """A section of docs/INSTALL.md."""
-    with open(PAGE, encoding="utf-8") as file:
-        text = file.read()
-    text = text[text.index(f"\n## {title}\n") :]
-    return text[: text.index("\n## ", 5)] if "\n## " in text[5:] else text
-
-
 def commands(title):
     """The commands of a section: those of its steps, those between them, and those in a line."""
-    found = re.findall(r"(?m)^(?: {4,7}(?! )(\S.*)|\d\. `(.*)`)$", section(title))
+    found = re.findall(r"(?m)^(?: {4,7}(?! )(\S.*)|\d\. `(.*)`)$", page_steps.section(PAGE, title))
     return [one or other for one, other in found]
 
 

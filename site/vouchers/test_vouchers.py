@@ -192,6 +192,7 @@ class GuestsPage(Sheet):
         self.assertEqual(self.sure(browser, "müller", self.codes[0]), 200)
         self.assertIn("Nothing was added", browser.text)
         self.assertEqual(self.sure(browser, "bo", self.codes[0]), 409)
+        self.assertIn("redeemed for another account", browser.text)
 
     def sure(self, browser, account, code):
         return browser.post("/redeem/", account=account, code=code, sure="yes")
@@ -199,10 +200,12 @@ class GuestsPage(Sheet):
     def test_each_fault_is_said(self):
         browser = Browser(self.app)
         self.assertEqual(browser.post("/redeem/", account="al", code="x"), 422)
+        self.assertIn("A letter of the code is wrong", browser.text)
         for sure in ({}, {"sure": "yes"}):
             self.assertEqual(browser.post("/redeem/", account="a+b", code=self.codes[0], **sure), 422)
             self.assertIn("Nobody can log in as a+b", browser.text)
         self.assertEqual(self.sure(browser, "al", codes.new()), 404)
+        self.assertIn("There is no such voucher", browser.text)
         self.book.is_away = True
         self.assertEqual(self.sure(browser, "al", self.codes[0]), 503)
         self.assertIn("Nothing is lost", browser.text)
