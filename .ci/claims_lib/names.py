@@ -18,7 +18,7 @@ OTHERS = {
     "--vacuum-size", "samefile", "HEX",
 }
 WORD = r"(?<![\w.-])--[a-z][a-z-]+|[A-Za-z_]\w{2,}"
-PLACES = r"(?:\.ci|bench|bin|crates|debian|docs|etc|interop|man|site|acct_\w+)"
+PLACES = r"(?:\.ci|bench|bin|crates|debian|docs|interop|man|site|acct_\w+)"
 IN_CODE = re.compile(rf"(?<![\w/.*-]){PLACES}/[\w./-]*\w")
 LISTED = r"((?:`[^`]+`(?:, | and )?)+)"
 
