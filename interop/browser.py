@@ -3,7 +3,6 @@
 import base64
 import json
 import os
-import shutil
 import signal
 import socket
 import subprocess
@@ -47,12 +46,8 @@ class Browser:
     def open(self, language="en"):
         os.makedirs(self.profile, exist_ok=True)
         with open(os.path.join(self.profile, "..", "chromedriver.log"), "wb") as log:
-            self.driver = subprocess.Popen(
-                ["chromedriver", f"--port={self.port}"],
-                stdout=log,
-                stderr=log,
-                start_new_session=True,
-            )
+            self.driver = subprocess.Popen(["chromedriver", f"--port={self.port}"], stdout=log,
+                                           stderr=log, start_new_session=True)
         flags = ["--headless=new", "--no-sandbox", "--disable-gpu", "--disable-dev-shm-usage"]
         flags += [f"--user-data-dir={self.profile}", f"--lang={language}"]
         flags += ["--window-size=1000,800"]
@@ -70,11 +65,9 @@ class Browser:
     def call(self, method, path, body=None, base=None):
         base = f"/session/{self.session}" if base is None else base
         request = urllib.request.Request(
-            f"http://127.0.0.1:{self.port}{base}{path}",
-            method=method,
+            f"http://127.0.0.1:{self.port}{base}{path}", method=method,
             data=None if body is None else json.dumps(body).encode(),
-            headers={"Content-Type": "application/json"},
-        )
+            headers={"Content-Type": "application/json"})
         try:
             with urllib.request.urlopen(request, timeout=60) as answer:
                 return json.load(answer)["value"]
@@ -137,18 +130,11 @@ class Browser:
             "for (const [id, value] of Object.entries(arguments[0])) {"
             "const it = document.getElementById(id); it.value = value;"
             "it.dispatchEvent(new Event('input', { bubbles: true })); }"
-            "document.getElementById('form').requestSubmit()",
-            values,
-        )
+            "document.getElementById('form').requestSubmit()", values)
 
     def size(self, width, height, scale=1):
-        self.debug(
-            "Emulation.setDeviceMetricsOverride",
-            width=width,
-            height=height,
-            deviceScaleFactor=scale,
-            mobile=width < 500,
-        )
+        self.debug("Emulation.setDeviceMetricsOverride", width=width, height=height,
+                   deviceScaleFactor=scale, mobile=width < 500)
 
     def overflow(self):
         """By how many pixels the page is wider than the window."""
@@ -193,7 +179,3 @@ def holding(folder, secrets):
             if any(it in text for it in wanted):
                 found.append(os.path.relpath(path, folder))
     return sorted(found)
-
-
-def missing_tools(tools):
-    return {name: package for name, package in tools.items() if shutil.which(name) is None}

@@ -43,9 +43,9 @@ def must_be_built():
         sys.exit(2)
 
 
-def is_missing(tools, is_root=False):
-    """Whether a tool is missing, which a package has, or root or the program is: it prints what. No
-    script is to build the program for an hour. RADACCTD in the environment names another one.
+def needs(tools, is_root=False):
+    """Ends with the status 2 if a tool is missing, which a package has, or root or the program is:
+    it prints what. No script is to build the program for an hour. RADACCTD names another one.
     """
     lacks = [f"{tool} is missing: the package {package} has it" for tool, package in tools.items()
              if shutil.which(tool) is None]
@@ -55,10 +55,4 @@ def is_missing(tools, is_root=False):
         lacks.append(NOT_BUILT)
     if lacks:
         print(*lacks, sep="\n", file=sys.stderr)
-    return bool(lacks)
-
-
-def needs(tools, is_root=False):
-    """Ends with the status 2 if one is missing."""
-    if is_missing(tools, is_root):
         sys.exit(2)

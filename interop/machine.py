@@ -40,11 +40,6 @@ PATIENCE = 60
 NUMBERS = itertools.count(1)
 
 
-def missing(tools):
-    """Prints what is missing to run a container, and says whether anything is."""
-    return command_line.is_missing(tools, is_root=True)
-
-
 def run(words, **more):
     """A command of this machine: its status and what it printed."""
     done = subprocess.run(words, capture_output=True, text=True, check=False, **more)

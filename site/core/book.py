@@ -10,9 +10,9 @@ from radacctd_site.core import accounts, machine, places
 
 
 def block(name, members):
-    """A block of the configuration."""
+    """A block of the configuration. JSON leaves a DEL as it is, and TOML takes none."""
     lines = [f"{it} = {json.dumps(value, ensure_ascii=False)}" for it, value in members.items()]
-    return f"[[{name}]]\n" + "\n".join(lines) + "\n"
+    return f"[[{name}]]\n" + "\n".join(lines).replace("\x7f", "\\u007f") + "\n"
 
 
 def written(path):

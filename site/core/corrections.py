@@ -49,11 +49,17 @@ def has_plan():
 
 def request(number, account, total, secret):
     """The signed report: a Stop of so many octets from the account."""
-    gigawords, octets = (it.to_bytes(4, "big") for it in divmod(total, 1 << 32))
-    values = {40: (2).to_bytes(4, "big"), 44: number.encode(), 1: account, 25: CLASS.encode(),
-              42: octets, 52: gigawords}
-    attributes = b"".join(bytes([kind, len(it) + 2]) + it for kind, it in values.items())
-    head = bytes([4, os.urandom(1)[0]]) + (20 + len(attributes)).to_bytes(2, "big")
+    gigawords, octets = divmod(total, 1 << 32)
+    pairs = [(40, 2), (44, number.encode()), (1, account), (25, CLASS.encode()), (42, octets),
+             (52, gigawords)]
+    return signed(pairs, secret, os.urandom(1)[0])
+
+
+def signed(pairs, secret, identifier):
+    """An Accounting-Request (RFC 2866, 3) of attributes: a number is one of four octets."""
+    values = [(kind, it.to_bytes(4, "big") if isinstance(it, int) else it) for kind, it in pairs]
+    attributes = b"".join(bytes([kind, len(it) + 2]) + it for kind, it in values)
+    head = bytes([4, identifier]) + (20 + len(attributes)).to_bytes(2, "big")
     return head + hashlib.md5(head + bytes(16) + attributes + secret).digest() + attributes
 
 
