@@ -380,6 +380,14 @@ class Attacked(Folder):
         self.assertRaises(OSError, files.text, path)
         self.assertEqual(self.state()[1].st_mode, self.before[1].st_mode)
 
+    def test_a_user_has_no_group_that_its_service_lacks(self):
+        """Debian's freerad is in shadow, and its processes may lead one another."""
+        many = [it for it in pwd.getpwall()
+                if it.pw_uid and len(os.getgrouplist(it.pw_name, it.pw_gid)) > 1]
+        for it in many:
+            said = machine.given([*machine.as_user(it.pw_name), "id", "-G"])
+            self.assertEqual(said.split(), [str(it.pw_gid)], it.pw_name)
+
     def test_a_user_reads_its_own(self):
         path = os.path.join(self.theirs, "x")
         self.assertEqual(machine.text_of(ATTACKER, path), "")
