@@ -99,7 +99,7 @@ def as_user(user):
     """What runs a command as a user, without root's terminal. `ran` gives it no environment of
     root's, and no other open file.
     """
-    return ["setsid", "--wait", "setpriv", "--reuid", user, "--regid", user, "--init-groups",
+    return ["setsid", "--wait", "setpriv", "--reuid", user, "--regid", user, "--clear-groups",
             "--no-new-privs", "--"]
 
 
