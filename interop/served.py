@@ -57,11 +57,11 @@ def check(name, got, wanted):
         print("         got   ", got)
 
 
-def until(holds, seconds=60):
-    """Waits until something holds, and says whether it does."""
+def until(holds, seconds=60, pause=0.05):
+    """Waits until something holds: what it was at last."""
     end = time.monotonic() + seconds
     while not (is_so := holds()) and time.monotonic() < end:
-        time.sleep(0.05)
+        time.sleep(pause)
     return is_so
 
 

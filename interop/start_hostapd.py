@@ -9,7 +9,7 @@ import subprocess
 import tempfile
 import time
 
-from served import check
+from served import check, until
 
 ADDRESS, STATION = "127.0.0.20", "radacctd-sta"
 HOSTAPD = """
@@ -94,14 +94,9 @@ class Wire:
 def try_it(box, secret, name, password, spend):
     """The guest logs in by 802.1X, and is disconnected once the money is gone."""
     with Wire(box, secret, name, password) as wire:
-        end = time.monotonic() + 60
-        while "starting accounting session" not in wire.log() and time.monotonic() < end:
-            time.sleep(0.5)
+        until(lambda: "starting accounting session" in wire.log(), 60, 0.5)
         found = [it in wire.log() for it in ("authorizing port", "starting accounting")]
         check("a guest logs in through hostapd, which reports the session", found, [True, True])
         spend()
-        end = time.monotonic() + 90
-        while "Acct-Session-Id match" not in wire.log() and time.monotonic() < end:
-            time.sleep(0.5)
-        found = "Acct-Session-Id match" in wire.log()
+        found = until(lambda: "Acct-Session-Id match" in wire.log(), 90, 0.5)
         check("once the money is gone, hostapd is told to end that session", found, True)

@@ -4,7 +4,7 @@ import secrets
 import time
 
 import machine
-from served import check
+from served import check, until
 
 PACKAGES = [*machine.SITE, "openssl"]
 HOST, FRONT = "accounts.hotel.test", "/etc/radacctd-front"
@@ -82,11 +82,7 @@ def faults(box, *words):
 
 def is_sound(box, seconds=90):
     """Waits until the check finds nothing; else the lines that it last printed."""
-    end = time.monotonic() + seconds
-    while True:
-        status, lines = faults(box)
-        if status == 0:
-            return []
-        if time.monotonic() > end:
-            return lines or [f"status {status}"]
-        time.sleep(1)
+    if until(lambda: faults(box)[0] == 0, seconds, 1):
+        return []
+    status, lines = faults(box)
+    return lines or [f"status {status}"]
