@@ -12,6 +12,9 @@ NOW = "radacctl copy"
 
 def look_at(*_):
     good, refused = places.names(), places.names(places.REFUSED)
+    if os.path.isdir(places.FOLDER) and not os.access(places.FOLDER, os.W_OK):
+        yield Fault("copy-bad", f"{places.FOLDER} takes no copy: its disk is read-only",
+                    f"dmesg says why; then: mount -o remount,rw {places.FOLDER}")
     if refused and (not good or refused[-1].removeprefix(places.REFUSED) > good[-1]):
         yield Fault("copy-bad", f"{places.FOLDER}/{refused[-1]} was refused: the book may be damaged",
                     "read GONE.md, and journalctl -u radacctd-copy")

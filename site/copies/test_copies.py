@@ -411,6 +411,8 @@ class Looks(Site):
         self.assertEqual(list(looks.look_at(None)), [])
         os.utime(path, (0, time.time() - 2 * 86400))
         self.assertEqual([it.name for it in looks.look_at(None)], ["copy-old"])
+        with mock.patch.object(os, "access", lambda *_: False):
+            self.assertEqual([it.name for it in looks.look_at(None)], ["copy-bad", "copy-old"])
 
 
 if __name__ == "__main__":

@@ -1,4 +1,4 @@
-"""What several features look at, and no step sees: secrets, certificates, reports that wait."""
+"""What several features look at, and no step sees: secrets, certificates, stores, what waits."""
 
 import os
 import re
@@ -12,6 +12,14 @@ from radacctd_site.core.steps import Fault
 
 # How long a certificate is to last, and a report may wait, in seconds.
 SOON, WAITS = 21 * 86400, 300
+# What tells whether a store is sound, and may be written now; and the cure of each reason.
+TRY = "import sqlite3, sys; it = sqlite3.connect(sys.argv[1]); it.isolation_level = None; " \
+      "said = it.execute('PRAGMA quick_check').fetchone()[0]; it.execute('BEGIN IMMEDIATE'); " \
+      "print(said)"
+CURES = {"locked": "end who has it open: ls -l /proc/*/fd | grep {path}",
+         "open database|readonly|disk I/O": "chown {user}: {path}*; its disk may be read-only",
+         "": "stop radacctd-site.service and radacctd-minute.timer, move it aside, and put that of the "
+             "last copy there, of {user} and its mode: {backups}/site-*/files{path}"}
 
 
 def secrets(path, clients):
@@ -48,6 +56,17 @@ def certificate(path, cure):
         yield Fault("certificate-ended", f"{path} holds from {begin} to {end}", cure)
     elif seconds_of(end) < time.time() + SOON:
         yield Fault("certificate-ends", f"{path} is over at {end}", cure)
+
+
+def store(path):
+    """The fault of a store of the pages' user which is not sound, or which it cannot write now."""
+    if os.path.lexists(path):
+        words = [*machine.as_user(places.USER), "python3", "-I", "-c", TRY, path]
+        why = machine.last_line("".join(machine.run(*words)[1:]))
+        if why != "ok":
+            cure = next(cure for reason, cure in CURES.items() if re.search(reason, why))
+            yield Fault("store-wrong", f"{path}: {why}", cure.format(
+                path=path, user=places.USER, backups=places.BACKUPS))
 
 
 def oldest_kept(folder):

@@ -207,6 +207,8 @@ class Unit(Step):
 
     name = "unit-down"
     WANTED = {"ActiveState": "active", "UnitFileState": "enabled", "NeedDaemonReload": "no"}
+    # A line of the unit's own: systemd's come after the reason.
+    OWN = r"^(?!\S+\.\w+: |St\w+(ing|ed) |Failed to start )"
 
     def __init__(self, unit, paths=(), test=()):
         super().__init__(f"start {unit} with its files as they are, now and at each boot",
@@ -214,8 +216,13 @@ class Unit(Step):
         self.unit, self.paths, self.test = unit, paths, test
 
     def look(self):
+        found = machine.properties(self.unit, *self.WANTED, "LoadState")
+        if found.get("LoadState") == "masked":
+            raise Failed(f"it is masked: systemctl unmask {self.unit}")
+        if found.get("ActiveState") in ("failed", "activating"):
+            raise Failed(machine.last_line(machine.journal(self.unit), self.OWN))
         if is_fresh(self.unit, self.paths):
-            return machine.properties(self.unit, *self.WANTED) == self.WANTED
+            return found.items() >= self.WANTED.items()
         if self.test:
             # What keeps it from a start with them is said.
             machine.given(self.test, seconds=60)

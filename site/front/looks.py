@@ -26,6 +26,8 @@ def look_at(answers, config):
     yield from secrets()
     yield from looks.certificate(f"{setup.CERTS}/server.pem",
                                  f"remove {setup.CERTS}, and give radacctl setup")
+    if not answers.sql:
+        yield from looks.store(users.FILE)
     yield from everybody(answers)
     yield from users_away(answers.sql) if answers.sql else ()
     yield from ignored()
@@ -50,7 +52,7 @@ def secrets():
 def everybody(answers):
     """A client that is every address, a login without a password, or a week of counting alone."""
     for name, text in clients.known():
-        if re.fullmatch(r"(0\.0\.0\.0|::|\*)(/0)?", clients.value(text, "ipaddr")):
+        if re.fullmatch(r"0\.0\.0\.0|::|\*|.*/[0-7]", clients.value(text, "ip(?:v[46])?addr")):
             yield Fault("front-wrong", f"client {name} of {RADDB}/clients.conf is every address",
                         f"write the access servers' own addresses; {RESTART}")
     if clients.value(files.text(f"{RADDB}/settings.conf"), "observe") == "yes":

@@ -178,8 +178,9 @@ class Looks(unittest.TestCase):
 
     def test_what_lets_anybody_in_is_told(self):
         for address, count in (("0.0.0.0/0", 1), ("*", 1), ("::/0", 1), ("10.0.0.0/8", 0),
+                               ("128.0.0.0/1", 1), ("0.0.0.0", 1),
                                ("10.0.0.0/8\n\tobserve = yes", 1)):
-            text = f"client x {{\n\tipaddr = {address}\n}}\n"
+            text = f"client x {{\n\tipv4addr = {address}\n}}\n"
             with mock.patch.object(files, "text", lambda _, it=text: it), \
                     mock.patch.object(users, "sql", lambda _: ""):
                 self.assertEqual(len(list(looks.everybody(wanted(sql={})))), count, address)

@@ -141,7 +141,8 @@ class ConfigFile(File):
 def plan_step(config):
     """The step to new plans, which the book gets while its server stands still."""
     of_book = ("--config", places.CONFIG, "--db", places.BOOK)
-    wanted = {names.shown(it["class"].encode()) for it in config.plans}
+    wanted = {names.shown(it["class"].encode())
+              for it in (*config.plans, *config.found.get("plan", []))}
 
     def put():
         machine.refuse_if_away()

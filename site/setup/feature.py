@@ -12,13 +12,16 @@ CRITICAL = {
     "clock-wrong": "the clock is before what the site wrote, or before 2026",
     "drop-secret": "an access server has another secret than radacctd",
     "nginx-wrong": "nginx' configuration has a fault, or its page is not that of the set-up",
-    "certificate-ended": "a certificate does not hold now, is not there, or of another host",
+    "certificate-ended": "a certificate does not hold now, or is not there",
+    "certificate-other": "the pages' certificate is of another name than `host`",
+    "store-wrong": "site.db or users.db is damaged, or cannot be written: nothing is sold",
     "try-failed": "a login, a report, a sale or a page that was tried is not answered as it should",
 }
 WARNINGS = {
     "differs": "what the set-up makes is missing, or another one, or has other rights",
     "unit-failed": "a unit of the site has failed",
     "old-program": "a process runs a program that was replaced or removed",
+    "desk-open": "radacctd's desk, which sells, listens beyond this machine",
     "sample-value": "a secret or key is the sample's, which is public",
     "secret-short": "a secret has less than 16 characters",
     "secret-shared": "two access servers have one secret",

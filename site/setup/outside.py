@@ -1,6 +1,6 @@
-"""Looks at a site of radacctd from another machine: python3 outside.py ADDRESS [LOCAL-ADDRESS].
+"""Looks at a site of radacctd from another machine: python3 outside.py HOST [LOCAL-ADDRESS].
 
-It says whether a firewall is between this machine and the site. A port that answers is open.
+HOST is the name of the pages, or the site's address. It says whether a firewall is between this machine and the site. A port that answers is open.
 Reports and logins of a machine that is no client get no answer: the site's list of faults then
 names the address of this machine, unless the packets never came.
 """
@@ -16,12 +16,13 @@ PACKETS = {1813: bytes([4, 1, 0, 23]) + bytes(16) + b"\x01\x03?", 1812: bytes([1
 
 def page(address):
     try:
-        context = ssl.create_default_context()
-        context.check_hostname, context.verify_mode = False, ssl.CERT_NONE
-        with socket.create_connection((address, 443), 10) as it, context.wrap_socket(it):
+        with socket.create_connection((address, 443), 10) as it, \
+                ssl.create_default_context().wrap_socket(it, server_hostname=address):
             return "443/tcp is open"
+    except ssl.SSLCertVerificationError as why:
+        return f"443/tcp is open, and browsers warn: {why.verify_message}"
     except OSError as why:
-        return f"443/tcp is shut: {why}. Let browsers through"
+        return f"443/tcp is shut: {why}. Let browsers through, and see what the name leads to"
 
 
 def packet(address, port, own):

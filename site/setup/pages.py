@@ -24,7 +24,7 @@ def of(answers):
     if not answers.certificate:
         yield Certificate(answers.host)
         yield File(PRIVATE_KEY, lambda old: old or "", 0o600)
-    yield Page(PAGE, page(answers))
+    yield Page(PAGE, page(answers), host=answers.host)
     yield Folder("/etc/radacctd-web")
     yield File(money.SETTINGS, lambda old: settings(old, answers))
     for name in answers.cashiers:
@@ -41,10 +41,14 @@ class Page(File):
 
     name = "nginx-wrong"
 
-    def look(self):
+    def test(self, more=""):
+        """nginx takes its files. Of two servers of one name it hears one, and says so only here."""
         status, said = machine.run(*TEST)
-        if status:
-            raise Failed(f"nginx says: {machine.last_line(said, 'emerg')}")
+        if status or re.search(f'conflicting server name "{re.escape(self.host)}"', said):
+            raise Failed(f"nginx says{more}: {machine.last_line(said, 'emerg|conflicting')}")
+
+    def look(self):
+        self.test()
         return super().look()
 
     def do(self):
@@ -52,13 +56,7 @@ class Page(File):
         old, _ = self.found()
         self.write(self.wanted(old), old)
         self.undo = lambda: self.write(old, None) if old is not None else files.remove(self.path)
-        said = machine.ran(TEST)
-        if said.returncode:
-            raise Failed(f"nginx would not start with {self.path}, so it was taken back: "
-                         f"{machine.last_line(said.stderr, 'emerg')}")
-        # Of two servers of one name nginx hears one, and says so only here.
-        for line in re.findall("(?m)^.*conflicting server name.*$", said.stderr):
-            print(f"nginx says: {line}")
+        self.test(f" of {self.path}, so it was taken back")
 
 
 def page(answers):
@@ -159,8 +157,8 @@ def seen(answers):
     yield from found
     yield from looks.open_to_others(answers.certificate_key or PRIVATE_KEY)
     if not found and not is_of(answers.host, path):
-        yield Fault("certificate-ended", f"{path} is not of {answers.host}: browsers warn of it",
-                    "get one of that name; then: systemctl reload nginx")
+        yield Fault("certificate-other", f"{path} is not of {answers.host}: browsers warn of it",
+                    "name one of this host in the answers, or remove it; then: radacctl setup")
     if not found and serves_another(answers.host, path):
         yield Fault("certificate-old", f"nginx serves another certificate than {path}",
                     "systemctl reload nginx")

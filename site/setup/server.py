@@ -111,6 +111,12 @@ def seen(config):
     yield from counts()
     yield from plans_lost(config)
     yield from printed()
+    yield from looks.store(places.DATABASE)
+    desk = corrections.settings().get("RADACCTD_DESK_BIND") or "127.0.0.1"
+    if not desk.startswith("127."):
+        yield Fault("desk-open", f"radacctd's desk, which sells, listens at {desk}",
+                    f"remove RADACCTD_DESK_BIND from {corrections.DEFAULTS}; "
+                    "systemctl restart radacctd")
     yield from looks.secrets(places.CONFIG, [(it.get("name"), it.get("secret", ""))
                                        for it in config.found.get("client", [])])
     said = machine.run(places.PROGRAM, "check", "--config", places.CONFIG, "--explain")[1]

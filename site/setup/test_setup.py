@@ -9,6 +9,7 @@ import pwd
 import re
 import shlex
 import shutil
+import sqlite3
 import stat
 import subprocess
 import tempfile
@@ -17,7 +18,8 @@ import tomllib
 import unittest
 from unittest import mock
 
-from radacctd_site.core import Failed, book, corrections, features, files, machine, places, steps
+from radacctd_site.core import (
+    Failed, book, corrections, features, files, looks, machine, places, steps)
 from radacctd_site.setup import (
     answers, beside, check, config, devices, outside, pages, server, setup_command)
 
@@ -227,7 +229,8 @@ class Configuration(Folder):
         self.assertEqual(len(self.kept()), 1)
 
     def test_plans_that_are_not_in_the_book_are_put_there(self):
-        made = self.made(wanted(plan=[PLAN, {**PLAN, "class": "gr\u00f6\u00dfe"}]))
+        made = self.made(wanted())
+        made.found = {"plan": [PLAN, {**PLAN, "class": "gr\u00f6\u00dfe"}]}
         rows = "class,block,unit,count\ndefault,1000,5,both\ndebit,1,1,both\nfree,1000000,0,both\n"
         for more, holds in (("gr%C3%B6%C3%9Fe,1,1,both\n", True), ("", False)):
             with mock.patch.object(book, "written", lambda _, it=rows + more: it):
@@ -270,8 +273,9 @@ class Steps(Folder):
             self.assertRaises(Failed, step.finish)
         self.assertEqual(done, [1])
 
-    def unit(self, state="active", ago=0, fresh=True):
+    def unit(self, state="active", ago=0, load="loaded"):
         found = {"ActiveState": state, "UnitFileState": "enabled", "NeedDaemonReload": "no",
+                 "LoadState": load,
                  "StateChangeTimestampMonotonic": str(int((time.monotonic() - ago) * 1e6))}
         self.patch(machine, properties=lambda _, *names: {it: found[it] for it in names},
                    given=lambda *_, **__: "", refuse_if_away=lambda: None)
@@ -292,6 +296,12 @@ class Steps(Folder):
             [fault] = step.faults()
         self.assertEqual(fault.name, "unit-down")
         self.assertIn("line 7 is wrong", fault.text)
+
+    def test_why_a_unit_does_not_run_is_said(self):
+        said = "explained: the disk refused\nx.service: Failed\nFailed to start x.service - x.\n"
+        with mock.patch.object(machine, "journal", lambda _: said):
+            self.assertRaisesRegex(Failed, "^explained: the disk refused$", self.unit, "activating")
+        self.assertRaisesRegex(Failed, "systemctl unmask x.service", self.unit, load="masked")
 
     def test_an_installation_that_was_cut_off_is_finished(self):
         """Also if dpkg fails, as while another run of apt has its lock, for which apt-get waits."""
@@ -540,6 +550,27 @@ class Pages(Folder):
                 step.finish()
             self.assertEqual(self.read() if os.path.exists(self.path) else None, old)
 
+    def test_another_server_of_our_name_is_told(self):
+        said = 'nginx: [warn] conflicting server name "{}" on 0.0.0.0:443, ignored\n'
+        self.write(b"ours", 0o644)
+        step = pages.Page(self.path, "ours", host="a.example.org")
+        for name, is_told in (("b.example.org", False), ("a.example.org", True)):
+            self.patch(machine, run=lambda *_, it=said.format(name): (0, it))
+            found = [it.text for it in step.faults()]
+            self.assertEqual(any("conflicting" in it for it in found), is_told, found)
+
+    @NEEDS_ROOT
+    @unittest.skipUnless(shutil.which("openssl"), "openssl is missing")
+    def test_a_certificate_of_another_name_is_told(self):
+        key, pem = (os.path.join(self.folder, it) for it in ("key", "pem"))
+        self.patch(pages, serves_another=lambda *_: False)
+        for host, names in (("a.example.org", []), ("b.example.org", ["certificate-other"])):
+            subprocess.run(["openssl", "req", "-x509", "-newkey", "rsa:2048", "-nodes", "-keyout",
+                            key, "-out", pem, "-subj", "/CN=x", "-addext",
+                            f"subjectAltName=DNS:{host}"], check=True, capture_output=True)
+            found = pages.seen(hotel(certificate=pem, certificate_key=key))
+            self.assertEqual([it.name for it in found], names)
+
     @NEEDS_ROOT
     @unittest.skipUnless(shutil.which("openssl"), "openssl is missing")
     def test_a_certificate_is_made_once_and_what_was_there_is_kept(self):
@@ -623,6 +654,31 @@ class Check(Folder):
         with mock.patch.object(machine, "given", lambda *_, **__: lines):
             acts = [it.cure.rpartition("systemctl ")[2] for it in beside.failed()]
         self.assertEqual([it.split()[0] for it in acts], ["start", *["reset-failed"] * 2])
+
+    def test_a_store_that_cannot_be_written_or_is_damaged(self):
+        self.patch(machine, as_user=lambda _: ())
+        self.assertEqual(list(looks.store(self.path)), [])
+        with contextlib.closing(sqlite3.connect(self.path, isolation_level=None)) as db:
+            db.execute("CREATE TABLE a (a)")
+            self.assertEqual(list(looks.store(self.path)), [])
+            db.execute("BEGIN IMMEDIATE")
+            [fault] = looks.store(self.path)
+            self.assertIn("end who has it open", fault.cure)
+        self.write(b"x" * 4096)
+        [fault] = looks.store(self.path)
+        self.assertIn(f"/var/backups/radacctd/site-*/files{self.path}", fault.cure)
+        os.remove(self.path)
+        os.mkdir(self.path)
+        [fault] = looks.store(self.path)
+        self.assertIn(f"chown radacctd-site: {self.path}*", fault.cure)
+
+    def test_a_desk_that_listens_beyond_the_machine(self):
+        quiet = dict.fromkeys(("away", "counts", "printed"), lambda: ())
+        self.patch(server, **quiet, plans_lost=lambda _: ())
+        self.patch(machine, run=lambda *_: (0, ""))
+        for bind, names in (("", []), ("127.0.0.3", []), ("0.0.0.0", ["desk-open"])):
+            self.patch(corrections, settings=lambda it=bind: {"RADACCTD_DESK_BIND": it})
+            self.assertEqual([it.name for it in server.seen(mock.Mock(found={}))], names)
 
     def test_a_lost_plan(self):
         made = mock.Mock(found={"plan": [{"class": "a", "block": 1, "unit": 2}]})
