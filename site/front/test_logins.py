@@ -373,6 +373,17 @@ class Plans(OneLab):
         it.row(it.users, "radreply", "both", "Class", "gold")
         self.assertEqual(stamp(it.login("both")), "gold;;both")
 
+    def test_no_row_tells_a_secret(self):
+        """FreeRADIUS expands a value in backquotes. Who writes rows may not read its files."""
+        it, value = self.lab, "`%{config:front.key}`"
+        it.group("odd", [("Front-Slow", "odder")], Filter_Id=value)
+        it.group("odder", Class="free", Filter_Id=value)
+        it.user("odd", "odd", Cleartext_Password="right")
+        self.assertEqual(radius.first(it.login("odd"), 11), value[1:].encode())
+        it.row(it.users, "radreply", "odd", "Reply-Message", value)
+        it.sell("odd", 1000)
+        self.assertEqual(radius.first(it.login("odd"), 18), value[1:].encode())
+
     def test_slow_in_place_of_the_end(self):
         it = self.lab
         it.group("dsl", [("Front-Slow", "crawl")], Class="gold", Mikrotik_Rate_Limit="50M/50M")
