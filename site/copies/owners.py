@@ -8,25 +8,18 @@ import pwd
 import shutil
 import subprocess
 
-from radacctd_site.core import Failed, files
+from radacctd_site.core import Failed, files, told
 
 PROGRAM = os.path.join(os.path.dirname(os.path.realpath(__file__)), "as_owner.py")
 PATH = {"PATH": "/usr/bin:/bin", "LC_ALL": "C.UTF-8"}
 NOBODY = "nobody"
 
 
-def number(user):
-    try:
-        return pwd.getpwnam(user).pw_uid
-    except KeyError:
-        raise Failed(f"there is no user {user}: is radacctd installed?") from None
-
-
 @contextlib.contextmanager
 def running(user, *words):
     """as_owner.py, as a user with no group but its own. Failed says what it said."""
-    number(user)
-    how = {"user": user, "group": pwd.getpwnam(user).pw_gid, "extra_groups": [], "env": PATH}
+    with told(Failed, "is radacctd installed? ", KeyError):
+        how = {"user": user, "group": pwd.getpwnam(user).pw_gid, "extra_groups": [], "env": PATH}
     with open(PROGRAM, encoding="utf-8") as file:
         text = file.read()
     pipe = subprocess.PIPE
