@@ -1,3 +1,4 @@
+pub mod Anew
 pub mod Auditing
 pub mod BookClock
 pub mod Checks

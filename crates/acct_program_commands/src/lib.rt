@@ -1,6 +1,7 @@
 //! The commands of the program over any book: what each does and prints, and its exit status.
 #![tactic(auto)]
 
+mod anew;
 mod audit_command;
 mod balances_file;
 mod book_clock;
@@ -32,7 +33,7 @@ pub use audit_command::run_audit;
 pub use balances_file::KeptBalances;
 pub use book_clock::{ClockReading, note_clock, read_clock};
 pub use book_names::BookNames;
-pub use check::{check_from, run_check, write_sizes};
+pub use check::{check_from, check_over, run_check};
 pub use config_file::{config_from, config_in, read_config};
 pub use drop_log::{DropLog, Pair};
 pub use exporting::{run_export, write_plans};

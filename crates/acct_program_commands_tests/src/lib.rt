@@ -3,6 +3,8 @@
 #![tactic(auto)]
 
 #[cfg(test)]
+mod anew;
+#[cfg(test)]
 mod auditing;
 #[cfg(test)]
 mod away;

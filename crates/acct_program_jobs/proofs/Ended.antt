@@ -1,5 +1,5 @@
 -- How a command ended that a fault ended.
-use Rattle.std.proofs.Common.{◌≡◌, List, inl, inr, Result, Ok, Err, IfOk, IfErr, sym, subst}
+use Rattle.std.proofs.Common.{◌≡◌, ◌≢◌, List, inl, inr, Result, Ok, Err, IfOk, IfErr, sym, subst}
 use Rattle.sqlite_disk.specs.declared.Disk as disk
 use Rattle.sqlite_disk.specs.declared.Files.{Files}
 use Rattle.sqlite_wal.specs.Recovery.{Image}
@@ -9,13 +9,20 @@ use Rattle.acct_model.specs.declared.plan.Plan.{Plan}
 use Rattle.acct_book.specs.declared.book.Book as book
 use Rattle.acct_site.specs.declared.config.Config.{Config}
 use Rattle.acct_program.specs.declared.status.Status.{Status}
+use Rattle.acct_program.specs.declared.status.Status.TheVariants as status
 use Rattle.acct_program_commands.specs.declared.fault.Fault.{Fault}
 use Rattle.acct_program_jobs.specs.declared.left.Left.{Left}
 use Rattle.acct_program_jobs.specs.declared.left.Left.TheVariants as left
 use Rattle.acct_program_jobs.specs.Files.{IsRefused, IsUnclosed, Copies, IsUnread}
-use Rattle.acct_program_jobs.specs.Files.{IsUnfound, IsUnlisted}
+use Rattle.acct_program_jobs.specs.Files.{IsUnlisted}
 use Rattle.acct_program_jobs.specs.Commands.{Worked, Closes, Fails, FailsToExport, IsNotClosed}
-use Rattle.acct_program_jobs.specs.Jobs.{ClosesOrFails, FailsAtWork, IsUnchecked, AreUntold}
+use Rattle.acct_program_jobs.specs.Jobs.{ClosesOrFails, FailsAtWork, AreUntold}
+
+-- a command that is done has no bad command line
+pub done_well : (ended : Result Status Fault) → IfOk ended (λ s. s ≡ status.Done)
+    → IfOk ended (λ s. s ≢ status.BadCommandLine)
+done_well (Ok s) done = λ bad. cc
+done_well (Err told) done = tt
 
 -- what holds with one configuration holds with some
 pub with_config : {A E : Type 0} (P : Config → A → Type 0) (config : Config) (result : Result A E)
@@ -106,15 +113,6 @@ module _ {D : Type 0} {g : disk.Ghosts D} (image : Image) (plans : List Plan) wh
   refused_unexported b told (left.Open last) h = inl h
   refused_unexported b told (left.Unclosed it) h = absurd h
   refused_unexported b told (left.Closed files) h = absurd h
-
-  -- and for a check
-  pub refused_unchecked : (told : Fault) (rest : Left D g) → IsRefused image plans told rest
-      → IsUnchecked image plans told rest
-  refused_unchecked told left.Nothing h = h
-  refused_unchecked told (left.Unopened it) h = h
-  refused_unchecked told (left.Open last) h = inl h
-  refused_unchecked told (left.Unclosed it) h = absurd h
-  refused_unchecked told (left.Closed files) h = absurd h
 
 module _ {D : Type 0} {g : disk.Ghosts D} (image : Image)
     (Did : Config → Result Status Fault → Held (FileStore D g) → Held (FileStore D g) → Type 0)

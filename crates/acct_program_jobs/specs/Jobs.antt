@@ -28,6 +28,7 @@ use Rattle.acct_program_args.specs.declared.job.Export.{Export}
 use Rattle.acct_program_args.specs.declared.job.Carrying.{Carrying}
 use Rattle.acct_program_args.specs.declared.job.Listening.{Listening}
 use Rattle.acct_program_args.specs.declared.job.Serving.{Serving}
+use Rattle.acct_program_commands.specs.Anew.{ChecksOver}
 use Rattle.acct_program_commands.specs.Auditing.{Audits}
 use Rattle.acct_program_commands.specs.Checks.{IsNoConfig, TellsSizes, sizes_line}
 use Rattle.acct_program_commands.specs.Checks as check
@@ -42,7 +43,7 @@ use Rattle.acct_program_jobs.specs.declared.left.Left.{Left}
 use Rattle.acct_program_jobs.specs.declared.left.Left.TheVariants as left
 use Rattle.acct_program_jobs.specs.declared.making.Making.{Making}
 use Rattle.acct_program_jobs.specs.declared.making.Making.TheVariants as how
-use Rattle.acct_program_jobs.specs.Files.{IsMade, HasNotMade, IsBookOf, IsOther, IsUnfound}
+use Rattle.acct_program_jobs.specs.Files.{IsMade, HasNotMade, IsBookOf, IsUnfound}
 use Rattle.acct_program_jobs.specs.Files.{IsUnclosed}
 use Rattle.acct_program_jobs.specs.Files.{Copies, IsRefused, IsUnlisted}
 use Rattle.acct_program_jobs.specs.Commands.{Worked, Closes, Fails, WritesOut, FailsToExport}
@@ -171,25 +172,6 @@ module _ {D : Type 0} {g : disk.Ghosts D} where
       FailsAtWork told rest = HasNoConfig told rest
           ⊎ ((config : Config) × Fails image config.plans (Did config) told rest)
 
-    -- the book in the files keeps the plans of a configuration, whose sizes were printed
-    pub record IsChecked (before after : Option (List ℕ)) (last : Held (FileStore D g)) : Type 0
-      where
-        pub config : Config
-        pub adopted : HasCleanDisk (file_state last) → IsBookOf image config.plans last
-        pub told : Appends before after (sizes_line config)
-
-    -- why they were not: there is no such book in the files, or their line could not be written
-    abbrev pub IsUnchecked : List Plan → Fault → Left D g → Type 0
-    IsUnchecked plans told (left.Open last) =
-        IsOther image plans told last
-        ⊎ ((told ≡ fault.CannotWrite)
-        × (HasCleanDisk (file_state last) → IsBookOf image plans last))
-    IsUnchecked plans told rest = IsUnfound image told rest
-
-    abbrev pub FailsToCheck : Fault → Left D g → Type 0
-    FailsToCheck told rest =
-        HasNoConfig told rest ⊎ ((config : Config) × IsUnchecked config.plans told rest)
-
     -- the output got the plans that the book in the files keeps: each class has one of them
     pub record AreListed (before after : Option (List ℕ)) (last : Held (FileStore D g)) : Type 0
       where
@@ -215,21 +197,6 @@ module _ {D : Type 0} {g : disk.Ghosts D} where
         ((last : Held (FileStore D g)) × (ended ≡ Ok status.Done) × (rest ≡ left.Open last)
         × AreListed before after last)
         ⊎ ((told : Fault) × (ended ≡ Err told) × FailsToList told rest)
-
-    -- `check` with a book
-    abbrev pub ChecksBook : Option (List ℕ) → Option (List ℕ) → Result Status Fault → Left D g
-        → Type 0
-    ChecksBook before after ended rest =
-        ((last : Held (FileStore D g)) × (ended ≡ Ok status.Done) × (rest ≡ left.Open last)
-        × IsChecked before after last)
-        ⊎ ((told : Fault) × (ended ≡ Err told) × FailsToCheck told rest)
-
-    -- `check`: only of a configuration, or of one and the book of a file
-    abbrev pub DoesCheck : Option (List ℕ) → Option (List ℕ) → Option (List ℕ)
-        → Result Status Fault → Left D g → Type 0
-    DoesCheck None before after ended rest =
-        ChecksConfig before after ended × (rest ≡ left.Nothing)
-    DoesCheck (Some file) before after ended rest = ChecksBook before after ended rest
 
     module _ (b : book.Ghosts (Held (FileStore D g))) where
       -- it ended well: the book, and a line about it
@@ -279,18 +246,36 @@ module _ {D : Type 0} {g : disk.Ghosts D} where
         pub worked : Worked image config.plans
             (λ first last. Audits b config before after first last ended) last
 
-      -- why none was
-      pub record AuditsNothing (ended : Result Status Fault) (rest : Left D g) : Type 0 where
+      -- `check` of a book that the files held: it is still open
+      pub record ChecksBook (before after : Option (List ℕ)) (ended : Result Status Fault)
+          (rest : Left D g) : Type 0 where
+        pub config : Config
+        pub last : Held (FileStore D g)
+        pub open_is : rest ≡ left.Open last
+        pub worked : Worked image config.plans
+            (λ first last. ChecksOver b config before after first last ended) last
+        pub why : IfErr ended IsExportFault
+
+      -- why no book was looked at
+      pub record LooksAtNone (ended : Result Status Fault) (rest : Left D g) : Type 0 where
         pub told : Fault
         pub ended_is : ended ≡ Err told
         pub why : HasNoConfig told rest
             ⊎ ((config : Config) × IsRefused image config.plans told rest)
 
+      -- `check`: only of a configuration, or of one and the book of a file
+      abbrev pub DoesCheck : Option (List ℕ) → Option (List ℕ) → Option (List ℕ)
+          → Result Status Fault → Left D g → Type 0
+      DoesCheck None before after ended rest =
+          ChecksConfig before after ended × (rest ≡ left.Nothing)
+      DoesCheck (Some file) before after ended rest =
+          ChecksBook before after ended rest ⊎ LooksAtNone ended rest
+
       -- `check`, with or without an audit
       abbrev pub ChecksOrAudits : Option (List ℕ) → Option (List ℕ) → Bool → Option (List ℕ)
           → Result Status Fault → Left D g → Type 0
       ChecksOrAudits before after true (Some file) ended rest =
-          AuditsBook before after ended rest ⊎ AuditsNothing ended rest
+          AuditsBook before after ended rest ⊎ LooksAtNone ended rest
       ChecksOrAudits before after audits database ended rest =
           DoesCheck database before after ended rest
 

@@ -5,7 +5,7 @@ ghost use Rattle.acct_site.specs.declared.config.Config.{Config};
 ghost use Rattle.acct_program_commands.specs.Auditing.{Audits};
 ghost use Rattle.acct_program_jobs.specs.Commands.{Worked};
 ghost use Rattle.acct_program_jobs.specs.Files.{IsRefused};
-ghost use Rattle.acct_program_jobs.specs.Jobs.{AuditsBook, AuditsNothing, HasNoConfig, text_of};
+ghost use Rattle.acct_program_jobs.specs.Jobs.{AuditsBook, LooksAtNone, HasNoConfig, text_of};
 
 use crate::book_file::BookFile;
 use crate::command::{Outcome, config_of};
@@ -32,7 +32,7 @@ pub(crate) fn audit_book<S: Start, W: Write + Drop, E: Write + Drop>(
     ensures other { IfOk result.ended (λ status. status ≢ Status.BadCommandLine) }
     ensures does { AuditsBook (image_at S.Start) ⟦<SqlBook<FileStore<FileFrom<S>>> as Book>⟧
         (W.contents output) (text_of W.contents result.output) result.ended result.left
-        ⊎ AuditsNothing (image_at S.Start) ⟦<SqlBook<FileStore<FileFrom<S>>> as Book>⟧
+        ⊎ LooksAtNone (image_at S.Start) ⟦<SqlBook<FileStore<FileFrom<S>>> as Book>⟧
         result.ended result.left }
 {
     match audited_from(runtime, files, output, progress, start) {

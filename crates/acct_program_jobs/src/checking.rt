@@ -3,7 +3,12 @@ ghost use Rattle.std.specs.Prelude.{◌≢◌, ◌≡◌, ◌⊎◌, IfOk, IfErr
 ghost use Rattle.std.specs.Option.{option_copied};
 ghost use Rattle.sqlite_wal.specs.Files.{image_at};
 ghost use Rattle.acct_program_commands.specs.KeptNames.{NamesSome};
-ghost use Rattle.acct_program_jobs.specs.Jobs.{DoesCheck, ChecksBook, IsChecked, FailsToCheck};
+ghost use Rattle.acct_site.specs.declared.config.Config.{Config};
+ghost use Rattle.acct_program_commands.specs.Anew.{ChecksOver};
+ghost use Rattle.acct_program_commands.specs.Exports.{IsExportFault};
+ghost use Rattle.acct_program_jobs.specs.Commands.{Worked};
+ghost use Rattle.acct_program_jobs.specs.Files.{IsRefused};
+ghost use Rattle.acct_program_jobs.specs.Jobs.{DoesCheck, ChecksBook, LooksAtNone, HasNoConfig};
 ghost use Rattle.acct_program_jobs.specs.Jobs.{text_of, KeepsOthers, ChecksOrAudits};
 
 use crate::audit_job::audit_book;
@@ -15,10 +20,12 @@ use acct_book::Book;
 use acct_model::Text;
 use acct_program::Status;
 use acct_program_args::KeptNames;
-use acct_program_commands::{Fault, ServerFiles, keep_others, run_check, write_sizes};
+use acct_program_commands::{Fault, ServerFiles, check_over, keep_others, run_check};
 use acct_program_serving::Errors;
+use acct_site::Config;
 use acct_sql::SqlBook;
-use sqlite::{FileFrom, FileStore, Start};
+use sqlite::{Alter, Connection, FileFrom, FileStore, Start};
+use std::alloc::Global;
 use std::io::Write;
 
 /// What `check` looks at.
@@ -137,7 +144,7 @@ fn check_files<S: Start, W: Write + Drop>(
     start: S,
 ) -> Outcome<W, FileFrom<S>>
     ensures other { IfOk result.ended (λ status. status ≢ Status.BadCommandLine) }
-    ensures does { DoesCheck (image_at S.Start) (option_copied checking.entry.database)
+    ensures does { DoesCheck (image_at S.Start) ⟦<SqlBook<FileStore<FileFrom<S>>> as Book>⟧ (option_copied checking.entry.database)
         (W.contents output) (text_of W.contents result.output) result.ended result.left }
 {
     match checking.database {
@@ -157,12 +164,14 @@ fn check_book<S: Start, W: Write + Drop>(
     start: S,
 ) -> Outcome<W, FileFrom<S>>
     ensures other { IfOk result.ended (λ status. status ≢ Status.BadCommandLine) }
-    ensures does { ChecksBook (image_at S.Start) (W.contents output)
-        (text_of W.contents result.output) result.ended result.left }
+    ensures does { ChecksBook (image_at S.Start) ⟦<SqlBook<FileStore<FileFrom<S>>> as Book>⟧
+        (W.contents output) (text_of W.contents result.output) result.ended result.left
+        ⊎ LooksAtNone (image_at S.Start) ⟦<SqlBook<FileStore<FileFrom<S>>> as Book>⟧
+        result.ended result.left }
 {
     match checked_from(runtime, files, &mut output, start) {
-        Ok(connection) => Outcome {
-            ended: Ok(Status::Done),
+        Ok((ended, connection)) => Outcome {
+            ended,
             output: Some(output),
             left: Left::Open(connection),
         },
@@ -174,23 +183,40 @@ fn check_book<S: Start, W: Write + Drop>(
     }
 }
 
-// The book in a file, which keeps the plans of the configuration in another one. Prints the sizes
-// of that configuration.
+// Checks the book in a file, which keeps the plans of the configuration in another one. Returns how
+// that ended, and the connection to the book.
 fn checked_from<S: Start, W: Write>(
     runtime: &HostRuntime,
     files: BookFile<'_>,
     output: &mut W,
     start: S,
-) -> Result<FileConnection<S>, (Fault, Left<FileFrom<S>>)>
-    ensures checked { IfOk result (IsChecked (image_at S.Start) (W.contents output.old)
-        (W.contents output.new)) }
-    ensures failed { IfErr result (λ e. FailsToCheck (image_at S.Start) e.0 e.1) }
+) -> Result<(Result<Status, Fault>, FileConnection<S>), (Fault, Left<FileFrom<S>>)>
+    ensures done { IfOk result (λ done. IfOk done.0 (λ status. status ≡ Status.Done)) }
+    ensures checked { IfOk result (λ done. (config : Config)
+        × Worked (image_at S.Start) config.plans (λ first last.
+        ChecksOver ⟦<SqlBook<FileStore<FileFrom<S>>> as Book>⟧ config (W.contents output.old)
+        (W.contents output.new) first last done.0) done.1) }
+    ensures why { IfOk result (λ done. IfErr done.0 IsExportFault) }
+    ensures refused { IfErr result (λ e. HasNoConfig e.0 e.1
+        ⊎ ((config : Config) × IsRefused (image_at S.Start) config.plans e.0 e.1)) }
 {
     let config = config_of(runtime, files.config)?;
     let book = adopted(runtime, files, &config.plans, start)?;
-    let connection = book.into_connection();
-    match write_sizes(output, &config) {
-        Ok(_) => Ok(connection),
-        Err(fault) => Err((fault, Left::Open(connection))),
-    }
+    Ok(checked(runtime.alloc(), &config, book, output))
+}
+
+// Checks a book in any store, and returns its connection.
+fn checked<T: Alter + Drop, W: Write>(
+    alloc: Global,
+    config: &Config,
+    mut book: SqlBook<T>,
+    output: &mut W,
+) -> (Result<Status, Fault>, Connection<T>)
+    ensures done { IfOk result.0 (λ status. status ≡ Status.Done) }
+    ensures checks { ChecksOver ⟦<SqlBook<T> as Book>⟧ config.now (W.contents output.old)
+        (W.contents output.new) book result.1 result.0 }
+    ensures why { IfErr result.0 IsExportFault }
+{
+    let ended = check_over(alloc, config, &mut book, output);
+    (ended, book.into_connection())
 }

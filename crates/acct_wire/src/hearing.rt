@@ -52,8 +52,8 @@ impl Drop for Stamping {
 }
 
 impl Stamping {
-    // The client of this name, if its logins are stamped.
-    pub(crate) fn called(&self, name: &str) -> Option<&StampedClient>
+    /// The client of this name, if its logins are stamped.
+    pub fn called(&self, name: &str) -> Option<&StampedClient>
         ensures { option_copied result ≡ find (is_called name.now) self.now.clients.items }
     {
         for client in &self.clients {

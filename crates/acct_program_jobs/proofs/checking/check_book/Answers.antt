@@ -1,5 +1,15 @@
 use Rattle.std.proofs.Common.{inl, refl}
+use Rattle.acct_program_jobs.proofs.Ended.{done_well}
 use Rattle.acct_program_jobs.proofs.checking.check_book.Goals as goal
 
+pub returns-in-Ok-clause-other : goal.returns-in-Ok-clause-other
+returns-in-Ok-clause-other g c = done_well c.in-Ok.ended c.in-Ok.ensures.done
+
 pub returns-in-Ok-clause-does : goal.returns-in-Ok-clause-does
-returns-in-Ok-clause-does g c = inl (c.in-Ok.connection, refl, refl, c.in-Ok.ensures.checked)
+returns-in-Ok-clause-does g c = inl (record {
+  config = c.in-Ok.ensures.checked.0;
+  last = c.in-Ok.connection;
+  open_is = refl;
+  worked = c.in-Ok.ensures.checked.1;
+  why = c.in-Ok.ensures.why;
+})
