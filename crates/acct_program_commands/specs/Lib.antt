@@ -16,6 +16,7 @@ pub mod Minutes
 pub mod Names
 pub mod NewSite
 pub mod Placed
+pub mod Puts
 pub mod RoundStates
 pub mod Rounds
 pub mod Sights

@@ -3,12 +3,12 @@
 //!
 //! It is written after a slice of turns, at most once in so many seconds. A failed write changes
 //! nothing else. It is printed once, until a write succeeds again.
-ghost use Rattle.std.specs.Prelude.{◌≡◌, IfOk, OnOk};
+ghost use Rattle.std.specs.Prelude.{◌≡◌, IfOk, OnOk, is_err};
 ghost use Rattle.acct_book.specs.Step.{OnlyLooks};
 ghost use Rattle.acct_program_commands.specs.Exports.{Exports};
 ghost use Rattle.acct_program_commands.specs.Fresh.{IsDue};
 ghost use Rattle.acct_program_commands.specs.Placed.{PutsBalances};
-ghost use Rattle.acct_program_commands.specs.Unwritten.{unwritten, Rewrites};
+ghost use Rattle.acct_program_commands.specs.Unwritten.{puts_after, unwritten, Rewrites};
 
 use crate::counted_lines::CountedLines;
 use crate::exporting::run_export;
@@ -67,7 +67,7 @@ impl<'r, R: ReplacesFiles> KeptBalances<'r, R> {
         if !self.file.is_due(moment) {
             return;
         }
-        let written = write_file(self.runtime, alloc, &self.file, plans, book);
+        let written = write_file(self.runtime, alloc, &mut self.file, plans, book);
         let noted = match written {
             Ok((accounts, overdrawn)) => {
                 gauges.note_balances(BalancesWritten {
@@ -107,13 +107,16 @@ fn write_rows<B: Book, W: Write + Drop>(
 fn write_file<R: ReplacesFiles, B: Book>(
     runtime: &R,
     alloc: Global,
-    file: &FreshFile,
+    file: &mut FreshFile,
     plans: &Plans,
     book: &mut B,
 ) -> Result<(u64, u64), Fault>
     ensures looks { OnlyLooks B.Book book.old book.new }
-    ensures put { OnOk result (PutsBalances (R.was_put file.now.name) (B.content book.old)
+    ensures put { OnOk result (PutsBalances (R.was_put file.old.name) (B.content book.old)
         (B.is_open book.new)) }
+    ensures counted { file.new ≡ record file.old {
+      puts = puts_after (is_err result) file.old.puts;
+    } }
 {
     let written = write_rows(alloc, plans, book, file.begin(runtime)?)?;
     let counts = (written.accounts(), written.overdrawn());

@@ -3,9 +3,10 @@
 //! No contract of std says what such a call does to a file. So they are all here, for a person to
 //! read: `.ci/claims` fails if another source can make one. Only the store writes a book's two
 //! files, and the contracts on it say what it leaves of them.
-ghost use Rattle.std.specs.Prelude.{◌≡◌, ⊤, ℕ, List, Option, None, IfOk, OnOk, true, false};
+ghost use Rattle.std.specs.Prelude.{◌≡◌, ℕ, List, Option, None, IfOk, OnOk, true, false};
 ghost use Rattle.std.specs.Io.KnownBytes.{Appends};
 ghost use Rattle.std.specs.Fs.{asks_create, asks_create_new, asks_truncate};
+ghost use Rattle.acct_program_commands.specs.Puts.{WasPut};
 
 use acct_reads::ReadsFiles;
 use std::fs::{Files, OpenFile, OpenOptions, Permissions};
@@ -64,7 +65,7 @@ impl<R: Files> ReplacesFiles for R {
 
     ghost fresh = { None };
 
-    ghost was_put = { λ _ _. ⊤ };
+    ghost was_put = { WasPut };
 
     fn open_empty(&self, name: &str, mode: u32) -> io::Result<Self::Writer> {
         let mut options = OpenOptions::new();
@@ -75,6 +76,7 @@ impl<R: Files> ReplacesFiles for R {
         Ok(NewFile(file))
     }
 
+    #[tactic(auto, unfolding(crate::specs::Puts::WasPut))]
     fn put_in_place(&self, file: Self::Writer, new_name: &str, name: &str) -> io::Result<()> {
         drop(file);
         fs::rename(self, new_name, name)

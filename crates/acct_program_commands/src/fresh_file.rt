@@ -2,7 +2,7 @@
 ghost use Rattle.std.specs.Prelude.{◌≡◌, ◌↔◌, ℕ, List, IsTrue, IfOk, OnOk, Some, false, is_err};
 ghost use Rattle.acct_program_commands.specs.Fresh.{IsDue, TellsTrouble};
 ghost use Rattle.std.specs.Io.KnownBytes.{Appends};
-ghost use Rattle.acct_program_commands.specs.Unwritten.{unwritten};
+ghost use Rattle.acct_program_commands.specs.Unwritten.{puts_after, unwritten};
 
 use crate::fault::Fault;
 use crate::file_changes::ReplacesFiles;
@@ -20,6 +20,9 @@ pub(crate) struct FreshFile {
     pause: u64,
     begun_at: Option<u64>,
     is_failing: bool,
+    // How often a file was put at the name, counted round and round: no clause could else tell
+    // that one write puts one file.
+    puts: u64,
 }
 
 impl Drop for FreshFile {
@@ -31,6 +34,7 @@ impl Drop for FreshFile {
             pause: _,
             begun_at: _,
             is_failing: _,
+            puts: _,
         } = self;
     }
 }
@@ -54,6 +58,7 @@ impl FreshFile {
             pause,
             begun_at: None,
             is_failing: false,
+            puts: 0,
         })
     }
 
@@ -86,11 +91,20 @@ impl FreshFile {
     /// # Errors
     ///
     /// Those of the system.
-    pub(crate) fn finish<R: ReplacesFiles>(&self, runtime: &R, file: R::Writer) -> io::Result<()>
-        ensures { OnOk result ((text : List ℕ)
-            → Appends R.fresh (R.Writer.contents file) text → R.was_put self.now.name text) }
+    pub(crate) fn finish<R: ReplacesFiles>(
+        &mut self,
+        runtime: &R,
+        file: R::Writer,
+    ) -> io::Result<()>
+        ensures put { OnOk result ((text : List ℕ)
+            → Appends R.fresh (R.Writer.contents file) text → R.was_put self.old.name text) }
+        ensures counted { self.new ≡ record self.old {
+          puts = puts_after (is_err result) self.old.puts;
+        } }
     {
-        runtime.put_in_place(file, self.new_name.as_str(), self.name.as_str())
+        runtime.put_in_place(file, self.new_name.as_str(), self.name.as_str())?;
+        self.puts = self.puts.wrapping_add(1);
+        Ok(())
     }
 
     /// Notes when a write began, if it is known, and whether it succeeded. The first failure is

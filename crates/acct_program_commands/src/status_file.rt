@@ -4,10 +4,10 @@
 //! It is written before the first turn's event is counted, then at the next turn after ten seconds
 //! or more, and at the end. A failed write changes nothing else. It is printed once, until a write
 //! succeeds again.
-ghost use Rattle.std.specs.Prelude.{◌≡◌, ◌^◌, ◌<◌, false, IfOk, OnOk, replicate};
+ghost use Rattle.std.specs.Prelude.{◌≡◌, ◌^◌, ◌<◌, false, IfOk, OnOk, is_err, replicate};
 ghost use Rattle.acct_program_commands.specs.Fresh.{IsDue};
 ghost use Rattle.acct_program_commands.specs.Placed.{PutsFigures};
-ghost use Rattle.acct_program_commands.specs.Unwritten.{unwritten, IsBegun, Rewrites};
+ghost use Rattle.acct_program_commands.specs.Unwritten.{puts_after, unwritten, IsBegun, Rewrites};
 ghost use Rattle.acct_program_commands.specs.Tally.{no_tally};
 ghost use Rattle.acct_program_commands.specs.Counted.{CountsAs, figures_of, muted, with_turn};
 ghost use Rattle.acct_program_commands.specs.Counted.{with_answer, with_refusal};
@@ -254,7 +254,7 @@ impl<'r, R: ReplacesFiles, E: Write> StatusFile<'r, R, E> {
         } }
     {
         let figures = self.figures();
-        let written = write_file(self.runtime, self.alloc, &self.file, &figures);
+        let written = write_file(self.runtime, self.alloc, &mut self.file, &figures);
         let _ = self.file.note(moment, "status", written, &mut self.errors);
     }
 
@@ -284,10 +284,13 @@ impl<'r, R: ReplacesFiles, E: Write> StatusFile<'r, R, E> {
 fn write_file<R: ReplacesFiles>(
     runtime: &R,
     alloc: Global,
-    file: &FreshFile,
+    file: &mut FreshFile,
     figures: &Figures,
 ) -> Result<(), Trouble>
-    ensures { OnOk result (PutsFigures (R.was_put file.now.name) figures.now) }
+    ensures put { OnOk result (PutsFigures (R.was_put file.old.name) figures.now) }
+    ensures counted { file.new ≡ record file.old {
+      puts = puts_after (is_err result) file.old.puts;
+    } }
 {
     let mut writer = BufWriter::new(alloc, file.begin(runtime)?)?;
     write_figures(&mut writer, figures)?;

@@ -35,6 +35,7 @@ use Rattle.acct_program_commands.specs.Checks as check
 use Rattle.acct_program_commands.specs.Exports.{IsExportFault, plans_text}
 use Rattle.acct_program_commands.specs.KeptNames.{NamesSome}
 use Rattle.acct_program_commands.specs.Imports.{Runs}
+use Rattle.acct_program_commands.specs.Puts.{WasPut}
 use Rattle.acct_program_commands.specs.Survey.{RunsForward}
 use Rattle.acct_program_serving.specs.Serving.{RunsServer}
 use Rattle.acct_program_commands.specs.declared.fault.Fault.{Fault}
@@ -288,11 +289,11 @@ module _ {D : Type 0} {g : disk.Ghosts D} where
         (IsBound : Listening → Cell Bool → X → Type 0) (m : book.Ghosts M)
         (text before after : Option (List ℕ)) where
       -- turns of a server over the book of this name, and an import at a moment, with a
-      -- configuration; no contract of std says what a file of the system has
+      -- configuration
       abbrev pub HasServed : List ℕ → Serving → Config → Result Status Fault
           → Held (FileStore D g) → Held (FileStore D g) → Type 0
       HasServed name serving config =
-          RunsServer b x (λ file text. ⊤) (IsBound serving.listening) None None name serving config
+          RunsServer b x WasPut (IsBound serving.listening) None None name serving config
           before after
 
       abbrev pub HasImported : ℕ → Config → Result Status Fault → Held (FileStore D g)

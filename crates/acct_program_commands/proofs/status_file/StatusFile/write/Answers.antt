@@ -8,6 +8,6 @@ pub returns-clause-put : goal.returns-clause-put
 returns-clause-put g c = λ fine. (
   c.figures-figures.result.state,
   subst (PutsFigures (g.R.ReplacesFiles.was_put c.args.self.now.file.name)) c.figures-figures.ensures
-      (put_if_fine c.write_file-written.result c.write_file-written.ensures
+      (put_if_fine c.write_file-written.result c.write_file-written.ensures.put
       (sym (ap (λ (file : FreshFile). file.is_failing) c.note.ensures.noted) ∙ fine)),
 )
