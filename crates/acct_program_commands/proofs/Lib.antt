@@ -1,7 +1,5 @@
 -- what a walk has counted of sessions that are charged anew
 pub mod CountedAnew
--- what was read from a text
-pub mod Readings
 -- the places of a log of drops
 pub mod Places
 -- what holds of the elements of a list up to a place

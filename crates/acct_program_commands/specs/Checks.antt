@@ -1,6 +1,6 @@
 -- What a text is as a configuration, and what `check` prints of it.
-use Rattle.std.specs.Prelude.{◌≡◌, ◌⊎◌, ⊤, ℕ, List, [], ◌∷◌, ◌++◌, Option, IfSome, codes, decimal}
-use Rattle.std.specs.Prelude.{length, Result, Ok, Err}
+use Rattle.std.specs.Prelude.{◌≡◌, ◌⊎◌, ℕ, List, [], ◌∷◌, ◌++◌, Option, codes, decimal, length}
+use Rattle.std.specs.Prelude.{Result, Ok, Err, OnOk, IfErr}
 use Rattle.std.specs.Str.{IsUtf8}
 use Rattle.std.specs.Io.KnownBytes.{Appends}
 use Rattle.acct_site.specs.declared.config.Config.{Config}
@@ -10,6 +10,8 @@ use Rattle.acct_site_config.specs.declared.config_error.ConfigError.{ConfigError
 use Rattle.acct_site_config.specs.declared.config_error.ConfigKind.TheVariants.{NotToml, Memory}
 use Rattle.acct_program.specs.declared.input.InputFault.{InputFault}
 use Rattle.acct_program.specs.declared.input.InputFault.TheVariants as input
+use Rattle.acct_program.specs.declared.status.Status.{Status}
+use Rattle.acct_program_commands.specs.Puts.{WasRead}
 use Rattle.acct_program_commands.specs.Sights.{Reading}
 use Rattle.acct_program_commands.specs.declared.fault.Fault.{Fault}
 use Rattle.acct_program_commands.specs.declared.fault.Fault.TheVariants as fault
@@ -34,27 +36,13 @@ IsRead (Ok octets) (Err told) =
 IsRead (Err why) (Ok config) = ⊥
 IsRead (Err why) (Err told) = told ≡ unread why
 
--- Why a text is no configuration. It could not be read to its end, or the fault is the first one of
--- the text, if the text is known.
-abbrev pub IsNoConfig : Option (List ℕ) → Fault → Type 0
-IsNoConfig text fault.CannotRead = ⊤
-IsNoConfig text (fault.Config error) = IfSome text (λ octets. IsFaultOf octets error)
-IsNoConfig text fault.CannotOpen = ⊥
-IsNoConfig text (fault.Store why) = ⊥
-IsNoConfig text fault.StoreMemory = ⊥
-IsNoConfig text fault.CannotBind = ⊥
-IsNoConfig text fault.CannotWrite = ⊥
-IsNoConfig text fault.NoMemory = ⊥
-IsNoConfig text fault.WouldOverwrite = ⊥
-IsNoConfig text fault.CutoffTooLate = ⊥
-IsNoConfig text fault.CutoffInReach = ⊥
-IsNoConfig text fault.ClockAhead = ⊥
-IsNoConfig text fault.ClockApart = ⊥
-IsNoConfig text fault.Unbalanced = ⊥
+-- What was read under a name: its configuration, or why there is none.
+abbrev pub ReadsConfig : List ℕ → Result Config Fault → Type 0
+ReadsConfig file result = (reading : Reading) × WasRead file reading × IsRead reading result
 
--- why a text was not checked: it is no configuration, or its sizes could not be written
-abbrev pub IsUnchecked : Option (List ℕ) → Fault → Type 0
-IsUnchecked text told = IsNoConfig text told ⊎ (told ≡ fault.CannotWrite)
+-- why the configuration under a name was not checked: there is none, or its sizes could not be written
+abbrev pub IsUnchecked : List ℕ → Fault → Type 0
+IsUnchecked file told = ReadsConfig file (Err told) ⊎ (told ≡ fault.CannotWrite)
 
 -- `ok: C clients, P plans, K keys`
 abbrev pub sizes_line : Config → List ℕ
@@ -63,9 +51,9 @@ sizes_line config =
     ++ decimal (length config.plans) ++ codes " plans, "
     ++ decimal (length config.keys.list) ++ codes " keys" ++ 10 ∷ []
 
--- The output got the sizes of the configuration that a text spells, if the text is known, and
--- nothing else.
-pub record TellsSizes (text : Option (List ℕ)) (before after : Option (List ℕ)) : Type 0 where
-  pub config : Config
-  pub spelled : IfSome text (λ octets. IsConfig octets config)
-  pub printed : Appends before after (sizes_line config)
+-- `check` of the configuration under a name: its sizes were printed and nothing else, or why not
+pub record ChecksConfig (file : List ℕ) (before after : Option (List ℕ)) (ended : Result Status Fault)
+    : Type 0 where
+  pub sizes : OnOk ended ((config : Config) × ReadsConfig file (Ok config)
+      × Appends before after (sizes_line config))
+  pub refused : IfErr ended (IsUnchecked file)

@@ -2,11 +2,11 @@
 ghost use Rattle.std.specs.Prelude.{◌≡◌, IfOk, IfErr, OnOk, None};
 ghost use Rattle.std.specs.Io.KnownBytes.{Appends};
 ghost use Rattle.acct_program_commands.specs.Anew.{ChecksOver, anew_line};
-ghost use Rattle.acct_program_commands.specs.Checks.{TellsSizes, IsUnchecked, sizes_line};
+ghost use Rattle.acct_program_commands.specs.Checks.{ChecksConfig, sizes_line};
 ghost use Rattle.acct_program_commands.specs.Exports.{IsExportFault};
 
 use crate::anew::anew_in;
-use crate::config_file::{config_from, opened};
+use crate::config_file::read_config;
 use crate::fault::Fault;
 use acct_book::Book;
 use acct_model::Text;
@@ -15,14 +15,13 @@ use acct_reads::ReadsFiles;
 use acct_site::Config;
 use std::alloc::Global;
 use std::io;
-use std::io::{Read, Write};
+use std::io::Write;
 
-/// Prints how many clients, plans and keys the configuration in a file has, as `check_from` does.
+/// Prints how many clients, plans and keys the configuration in a file has.
 ///
 /// # Errors
 ///
-/// `CannotRead` if the file cannot be opened, or if opening it could block; and those of
-/// `check_from`.
+/// Those of `read_config`, and `CannotWrite`.
 pub fn run_check<R: ReadsFiles, W: Write>(
     runtime: &R,
     alloc: Global,
@@ -30,31 +29,9 @@ pub fn run_check<R: ReadsFiles, W: Write>(
     output: &mut W,
 ) -> Result<Status, Fault>
     ensures done { IfOk result (λ status. status ≡ Status.Done) }
-    ensures sizes { OnOk result (TellsSizes None (W.contents output.old) (W.contents output.new)) }
-    ensures refused { IfErr result (IsUnchecked None) }
+    ensures checks { ChecksConfig file.now (W.contents output.old) (W.contents output.new) result }
 {
-    match opened(runtime, file) {
-        Some(mut reader) => check_from(alloc, &mut reader, output),
-        None => Err(Fault::CannotRead),
-    }
-}
-
-/// Prints how many clients, plans and keys the configuration of a reader has.
-///
-/// # Errors
-///
-/// Those of `config_from`, and `CannotWrite`.
-pub fn check_from<R: Read, W: Write>(
-    alloc: Global,
-    reader: &mut R,
-    output: &mut W,
-) -> Result<Status, Fault>
-    ensures done { IfOk result (λ status. status ≡ Status.Done) }
-    ensures sizes { OnOk result (TellsSizes (R.remaining reader.old) (W.contents output.old)
-        (W.contents output.new)) }
-    ensures refused { IfErr result (IsUnchecked (R.remaining reader.old)) }
-{
-    let config = config_from(alloc, reader)?;
+    let config = read_config(runtime, alloc, file)?;
     write_sizes(output, &config)
 }
 

@@ -1,9 +1,9 @@
 //! The file of a configuration.
-ghost use Rattle.std.specs.Prelude.{◌≡◌, ◌||◌, IfOk, IfErr, IfSome, None, bytes_eq, codes, nat_eq};
+ghost use Rattle.std.specs.Prelude.{◌≡◌, ◌||◌, bytes_eq, codes, nat_eq};
 ghost use Rattle.std.specs.List.{starts_with};
-ghost use Rattle.acct_site_config.specs.Config.{IsConfig};
 ghost use Rattle.acct_site_config.specs.Tables.{top_error};
-ghost use Rattle.acct_program_commands.specs.Checks.{IsNoConfig, IsRead};
+ghost use Rattle.acct_program_commands.specs.Checks.{IsRead, ReadsConfig};
+ghost use Rattle.acct_program_commands.specs.Puts.{WasRead};
 
 use crate::fault::Fault;
 use acct_model::{Octets, Text};
@@ -12,7 +12,6 @@ use acct_reads::ReadsFiles;
 use acct_site::Config;
 use acct_site_config::{ConfigError, ConfigKind, ConfigTable, config_of};
 use std::alloc::Global;
-use std::io::Read;
 use std::str;
 
 /// The configuration in a file.
@@ -22,22 +21,9 @@ use std::str;
 /// `CannotRead` if the file cannot be opened or read, or has more than 16,777,216 octets. Else the
 /// first thing that is wrong with it.
 pub fn read_config<R: ReadsFiles>(runtime: &R, alloc: Global, file: &Text) -> Result<Config, Fault>
-    ensures refused { IfErr result (IsNoConfig None) }
+    ensures { ReadsConfig file.now result }
 {
     config_in(alloc, read_file(runtime, alloc, file))
-}
-
-/// The configuration that a reader has.
-///
-/// # Errors
-///
-/// As those of `read_config`.
-pub fn config_from<R: Read>(alloc: Global, reader: &mut R) -> Result<Config, Fault>
-    ensures spelled { IfOk result (λ config.
-        IfSome (R.remaining reader.old) (λ text. IsConfig text config)) }
-    ensures refused { IfErr result (IsNoConfig (R.remaining reader.old)) }
-{
-    config_in(alloc, octets_of(alloc, reader))
 }
 
 /// All octets of a file.
@@ -45,19 +31,24 @@ pub fn config_from<R: Read>(alloc: Global, reader: &mut R) -> Result<Config, Fau
 /// # Errors
 ///
 /// `CannotRead` if it cannot be opened, or if opening it could block; and those of `read_input`.
+// No contract of std says what a file has: this is read by eye.
+#[tactic(auto, unfolding(crate::specs::Puts::WasRead))]
 pub(crate) fn read_file<R: ReadsFiles>(
     runtime: &R,
     alloc: Global,
     file: &Text,
-) -> Result<Octets, InputFault> {
-    match opened(runtime, file) {
-        Some(mut reader) => octets_of(alloc, &mut reader),
-        None => Err(InputFault::CannotRead),
-    }
+) -> Result<Octets, InputFault>
+    ensures { WasRead file.now result }
+{
+    let Some(mut reader) = opened(runtime, file) else {
+        return Err(InputFault::CannotRead);
+    };
+    let octets = read_input(alloc, &mut reader)?;
+    Ok(Octets { octets })
 }
 
-/// A file of a configuration, opened. `None` if it cannot be, or if opening it could block.
-pub(crate) fn opened<R: ReadsFiles>(runtime: &R, file: &Text) -> Option<R::Reader> {
+// A file of a configuration, opened. `None` if it cannot be, or if opening it could block.
+fn opened<R: ReadsFiles>(runtime: &R, file: &Text) -> Option<R::Reader> {
     let name = file.as_str();
     if is_waited_for(runtime, name) {
         return None;
@@ -85,14 +76,6 @@ fn is_given_open(file: &str) -> bool
     name == b"/dev/stdin".as_slice()
         || name.starts_with(b"/dev/fd/")
         || name.starts_with(b"/proc/self/fd/")
-}
-
-// All octets that a reader has left.
-fn octets_of<R: Read>(alloc: Global, reader: &mut R) -> Result<Octets, InputFault>
-    ensures { IfOk result (λ octets. IfSome (R.remaining reader.old) (λ all. octets ≡ all)) }
-{
-    let octets = read_input(alloc, reader)?;
-    Ok(Octets { octets })
 }
 
 /// The configuration that was read.

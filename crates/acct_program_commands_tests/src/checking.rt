@@ -1,6 +1,8 @@
 //! What a check of a configuration prints.
+use acct_book::MemBook;
+use acct_model::Octets;
 use acct_program::Status;
-use acct_program_commands::check_from;
+use acct_program_commands::{check_over, config_in};
 use std::test::Fail;
 
 const CONFIG: &str = "[[client]]\nname = \"ap1\"\naddress = \"127.0.0.1\"\n\
@@ -10,9 +12,13 @@ const CONFIG: &str = "[[client]]\nname = \"ap1\"\naddress = \"127.0.0.1\"\n\
 
 #[test]
 fn counts_what_is_there(rt: HostRuntime) -> Result<(), Fail> {
-    let mut output = Vec::new(rt.alloc());
-    let ended = check_from(rt.alloc(), &mut CONFIG.as_bytes(), &mut output);
-    assert!(rt; matches!(&ended, Ok(Status::Done)));
+    let alloc = rt.alloc();
+    let Ok(config) = config_in(alloc, Ok(Octets::from_slice(alloc, CONFIG.as_bytes())?)) else {
+        return Err("no configuration".into());
+    };
+    let (mut book, mut output) = (MemBook::new(alloc), Vec::new(alloc));
+    let ended = check_over(alloc, &config, &mut book, &mut output);
+    assert!(rt; ended == Ok(Status::Done));
     assert!(rt; output.as_slice() == "ok: 1 clients, 2 plans, 1 keys\n".as_bytes());
     Ok(())
 }

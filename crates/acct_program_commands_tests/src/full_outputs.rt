@@ -9,7 +9,7 @@ use acct_model::TopUp;
 use acct_program::Status;
 use acct_program_args::{Carrying, Cutoff, Export};
 use acct_program_commands::{
-    ClockReading, Fault, check_from, run_audit, run_export, run_forward, run_import,
+    ClockReading, Fault, check_over, run_audit, run_export, run_forward, run_import,
 };
 use acct_site::sample_config;
 use std::alloc::Global;
@@ -108,12 +108,10 @@ static COMMANDS: [(Command, bool, &str, Ended); 9] = [
     (
         Command::Check,
         false,
-        "ok: 0 clients, 1 plans, 0 keys\n",
+        "ok: 1 clients, 2 plans, 3 keys\n",
         DONE,
     ),
 ];
-
-const PLAN: &str = "[[plan]]\nclass = \"default\"\nblock = 1000000\nunit = 5\n";
 
 const UPLOAD: &str = "voucher,account,sum\nV-2,al,500\n";
 
@@ -186,7 +184,7 @@ fn ended_over<W: Write + Drop>(
             let (ended, _) = run_audit(alloc, &config, &mut book, &mut output, &mut progress);
             ended
         }
-        Command::Check => check_from(alloc, &mut PLAN.as_bytes(), &mut output),
+        Command::Check => check_over(alloc, &config, &mut book, &mut output),
     })
 }
 

@@ -3,11 +3,11 @@
 use crate::sessions::{Alike, row_of};
 use acct_book::SessionState::Stopped;
 use acct_book::{Book, MemBook};
-use acct_model::{Text, TopUp};
+use acct_model::{Octets, Text, TopUp};
 use acct_program::Status;
 use acct_program_args::BalancesFile;
 use acct_program_commands::{
-    BalancesWritten, Gauges, KeptBalances, SiteFile, SiteSource, config_from, run_audit, take_site,
+    BalancesWritten, Gauges, KeptBalances, SiteFile, SiteSource, config_in, run_audit, take_site,
 };
 use acct_site::{Config, sample_config};
 use chosen_sizes::chosen_size;
@@ -134,7 +134,10 @@ fn taken(
     text: &str,
     told: &mut Vec<u8>,
 ) -> Result<Option<(usize, usize, usize)>, Fail> {
-    let Ok(config) = config_from(rt.alloc(), &mut text.as_bytes()) else {
+    let Ok(config) = config_in(
+        rt.alloc(),
+        Ok(Octets::from_slice(rt.alloc(), text.as_bytes())?),
+    ) else {
         return Ok(None);
     };
     let file = Text::from_str(rt.alloc(), "long-site.toml")?;

@@ -1,6 +1,6 @@
 //! The configuration that is read again while a server runs, and what is printed of the clock.
 use acct_model::{Octets, Plan, Text};
-use acct_program_commands::{SiteFile, SiteSource, config_from, note_clock, take_site};
+use acct_program_commands::{SiteFile, SiteSource, config_in, note_clock, take_site};
 use acct_site::Config;
 use std::alloc::Global;
 use std::fs;
@@ -37,7 +37,7 @@ fn write_site(rt: &HostRuntime, name: &str, parts: [&str; 4]) -> Result<(), Fail
 // The configuration of one client, one plan and one key.
 fn old_site(alloc: Global) -> Result<Config, Fail> {
     let text = format!(in alloc; "{CLIENT}{PLAN}{KEY}")?;
-    match config_from(alloc, &mut text.as_bytes()) {
+    match config_in(alloc, Ok(Octets::from_slice(alloc, text.as_bytes())?)) {
         Ok(config) => Ok(config),
         Err(_) => Err("no configuration".into()),
     }
@@ -248,7 +248,10 @@ fn is_default(plan: &Plan) -> bool {
 #[test]
 fn names_the_plan_that_differs(rt: HostRuntime) -> Result<(), Fail> {
     let text = format!(in rt.alloc(); "{CLIENT}{PLAN}{GOLD}")?;
-    let Ok(config) = config_from(rt.alloc(), &mut text.as_bytes()) else {
+    let Ok(config) = config_in(
+        rt.alloc(),
+        Ok(Octets::from_slice(rt.alloc(), text.as_bytes())?),
+    ) else {
         return Err("no configuration".into());
     };
     for row in &ORDERS {

@@ -1,5 +1,5 @@
 -- How a command ended that a fault ended.
-use Rattle.std.proofs.Common.{◌≡◌, ◌≢◌, List, inl, inr, Result, Ok, Err, IfOk, IfErr, sym, subst}
+use Rattle.std.proofs.Common.{◌≡◌, ◌≢◌, ℕ, List, inl, inr, Result, Ok, Err, IfOk, IfErr, sym, subst}
 use Rattle.sqlite_disk.specs.declared.Disk as disk
 use Rattle.sqlite_disk.specs.declared.Files.{Files}
 use Rattle.sqlite_wal.specs.Recovery.{Image}
@@ -10,6 +10,7 @@ use Rattle.acct_book.specs.declared.book.Book as book
 use Rattle.acct_site.specs.declared.config.Config.{Config}
 use Rattle.acct_program.specs.declared.status.Status.{Status}
 use Rattle.acct_program.specs.declared.status.Status.TheVariants as status
+use Rattle.acct_program_commands.specs.Checks.{ReadsConfig}
 use Rattle.acct_program_commands.specs.declared.fault.Fault.{Fault}
 use Rattle.acct_program_jobs.specs.declared.left.Left.{Left}
 use Rattle.acct_program_jobs.specs.declared.left.Left.TheVariants as left
@@ -24,11 +25,12 @@ pub done_well : (ended : Result Status Fault) → IfOk ended (λ s. s ≡ status
 done_well (Ok s) done = λ bad. cc
 done_well (Err told) done = tt
 
--- what holds with one configuration holds with some
-pub with_config : {A E : Type 0} (P : Config → A → Type 0) (config : Config) (result : Result A E)
-    → IfOk result (P config) → IfOk result (λ done. (some : Config) × P some done)
-with_config P config (Ok done) h = (config, h)
-with_config P config (Err e) h = tt
+-- what holds with one configuration that was read holds with some
+pub with_config : {A E : Type 0} (IsHere : Config → Type 0) (P : Config → A → Type 0)
+    (config : Config) → IsHere config → (result : Result A E) → IfOk result (P config)
+    → IfOk result (λ done. (some : Config) × IsHere some × P some done)
+with_config IsHere P config here (Ok done) h = (config, here, h)
+with_config IsHere P config here (Err e) h = tt
 
 module _ {D : Type 0} {g : disk.Ghosts D} where
   -- how a command that closes its book ended
@@ -114,15 +116,16 @@ module _ {D : Type 0} {g : disk.Ghosts D} (image : Image) (plans : List Plan) wh
   refused_unexported b told (left.Unclosed it) h = absurd h
   refused_unexported b told (left.Closed files) h = absurd h
 
-module _ {D : Type 0} {g : disk.Ghosts D} (image : Image)
+module _ {D : Type 0} {g : disk.Ghosts D} (image : Image) (file : List ℕ)
     (Did : Config → Result Status Fault → Held (FileStore D g) → Held (FileStore D g) → Type 0)
   where
-    -- a command that a fault ended by one configuration was ended by some
-    pub fails_by : (config : Config) (result : Result (Status × Files D) (Fault × Left D g))
+    -- a command that a fault ended by one configuration that was read was ended by some
+    pub fails_by : (config : Config) → ReadsConfig file (Ok config)
+        → (result : Result (Status × Files D) (Fault × Left D g))
         → IfErr result (λ e. Fails image config.plans (Did config) e.0 e.1)
-        → IfErr result (λ e. FailsAtWork image Did e.0 e.1)
-    fails_by config (Ok done) h = tt
-    fails_by config (Err e) h = inr (config, h)
+        → IfErr result (λ e. FailsAtWork image file Did e.0 e.1)
+    fails_by config read (Ok done) h = tt
+    fails_by config read (Err e) h = inr (config, read, h)
 
 -- ---- files that were not opened
 
@@ -145,10 +148,10 @@ module _ {D : Type 0} {g : disk.Ghosts D} (image : Image) where
   unread_unlisted told (left.Closed files) h = absurd h
 
   -- plans that were not listed were not written
-  pub unlisted_untold : (told : Fault) (rest : Left D g) → IsUnlisted image told rest
-      → AreUntold image told rest
-  unlisted_untold told left.Nothing h = h
-  unlisted_untold told (left.Unopened it) h = h
-  unlisted_untold told (left.Open last) h = inl h
-  unlisted_untold told (left.Unclosed it) h = absurd h
-  unlisted_untold told (left.Closed files) h = absurd h
+  pub unlisted_untold : (file : List ℕ) (told : Fault) (rest : Left D g)
+      → IsUnlisted image told rest → AreUntold image file told rest
+  unlisted_untold file told left.Nothing h = h
+  unlisted_untold file told (left.Unopened it) h = h
+  unlisted_untold file told (left.Open last) h = inl h
+  unlisted_untold file told (left.Unclosed it) h = absurd h
+  unlisted_untold file told (left.Closed files) h = absurd h

@@ -30,8 +30,7 @@ use Rattle.acct_program_args.specs.declared.job.Listening.{Listening}
 use Rattle.acct_program_args.specs.declared.job.Serving.{Serving}
 use Rattle.acct_program_commands.specs.Anew.{ChecksOver}
 use Rattle.acct_program_commands.specs.Auditing.{Audits}
-use Rattle.acct_program_commands.specs.Checks.{IsNoConfig, TellsSizes, sizes_line}
-use Rattle.acct_program_commands.specs.Checks as check
+use Rattle.acct_program_commands.specs.Checks.{ChecksConfig, IsUnchecked, ReadsConfig}
 use Rattle.acct_program_commands.specs.Exports.{IsExportFault, plans_text}
 use Rattle.acct_program_commands.specs.KeptNames.{NamesSome}
 use Rattle.acct_program_commands.specs.Imports.{Runs}
@@ -74,16 +73,15 @@ line_of how.Extended count = added_line count
 
 -- ---- commands without a book
 
--- `check`: the sizes of a configuration, or why none were printed
-pub record ChecksConfig (before after : Option (List ℕ)) (ended : Result Status Fault)
-    : Type 0 where
-  pub sizes : OnOk ended (TellsSizes None before after)
-  pub refused : IfErr ended (check.IsUnchecked None)
-
 -- the site of `feed`: that of a file, or the sample's clients and plans
 abbrev pub IsSiteOf : Option (List ℕ) → Config → Type 0
 IsSiteOf None config = (config.clients ≡ sample_clients) × (config.plans ≡ sample_plans)
-IsSiteOf (Some file) config = ⊤
+IsSiteOf (Some file) config = ReadsConfig file (Ok config)
+
+-- why `feed` did not end well: there is no configuration under its name, or the output failed
+abbrev pub FeedsNothing : Option (List ℕ) → Fault → Type 0
+FeedsNothing None told = told ≡ fault.CannotWrite
+FeedsNothing (Some file) told = IsUnchecked file told
 
 -- a script whose lines were all good was answered over an empty book with this configuration
 pub record FeedsScript {B : Type 0} (b : book.Ghosts B) (config : Config) (text : Option (List ℕ))
@@ -107,9 +105,10 @@ module _ {D : Type 0} {g : disk.Ghosts D} {A B : Type 0} where
 -- ---- commands that keep a book
 
 module _ {D : Type 0} {g : disk.Ghosts D} where
-  -- a fault ended a command before any file of the book was opened
-  pub record HasNoConfig (told : Fault) (rest : Left D g) : Type 0 where
-    pub why : IsNoConfig None told
+  -- a fault ended a command before any file of the book was opened: there is no configuration under
+  -- this name
+  pub record HasNoConfig (file : List ℕ) (told : Fault) (rest : Left D g) : Type 0 where
+    pub why : ReadsConfig file (Err told)
     pub nothing : rest ≡ left.Nothing
 
   -- how a command ended: well, with its book closed this way; or by a fault, which left this
@@ -145,33 +144,37 @@ module _ {D : Type 0} {g : disk.Ghosts D} where
       pub is_made : IsMadeAndClosed plans count book files
 
     -- why the command did not end well
-    abbrev pub FailsToMake : Fault → Left D g → Type 0
-    FailsToMake told rest = HasNoConfig told rest
-        ⊎ ((config : Config) × (HasNotMade making image config.plans told rest
+    abbrev pub FailsToMake : List ℕ → Fault → Left D g → Type 0
+    FailsToMake file told rest = HasNoConfig file told rest
+        ⊎ ((config : Config) × ReadsConfig file (Ok config)
+        × (HasNotMade making image config.plans told rest
         ⊎ IsMadeUnclosed config.plans told rest
         ⊎ IsMadeUntold config.plans told rest))
 
-  module _ (image : Image) where
+  -- with the configuration of the file of this name
+  module _ (image : Image) (file : List ℕ) where
     -- why `init`, `migrate` and `plans` did not end well
     abbrev pub FailsToMakeNew : Bool → Fault → Left D g → Type 0
-    FailsToMakeNew has_sums told rest = FailsToMake image (how.New has_sums) told rest
+    FailsToMakeNew has_sums told rest = FailsToMake image (how.New has_sums) file told rest
 
     abbrev pub FailsToMigrate : Fault → Left D g → Type 0
-    FailsToMigrate told rest = FailsToMake image how.Migrated told rest
+    FailsToMigrate told rest = FailsToMake image how.Migrated file told rest
 
     abbrev pub FailsToAdd : Fault → Left D g → Type 0
-    FailsToAdd told rest = FailsToMake image how.Extended told rest
+    FailsToAdd told rest = FailsToMake image how.Extended file told rest
 
     -- `serve` and `import`: what was done with a configuration, from the book that the files held
     module _ (Did : Config → Result Status Fault → Held (FileStore D g) → Held (FileStore D g)
         → Type 0) where
       abbrev pub WorksAndCloses : Status → Files D → Type 0
       WorksAndCloses ended files =
-          (config : Config) × Closes image config.plans (Did config) ended files
+          (config : Config) × ReadsConfig file (Ok config)
+          × Closes image config.plans (Did config) ended files
 
       abbrev pub FailsAtWork : Fault → Left D g → Type 0
-      FailsAtWork told rest = HasNoConfig told rest
-          ⊎ ((config : Config) × Fails image config.plans (Did config) told rest)
+      FailsAtWork told rest = HasNoConfig file told rest
+          ⊎ ((config : Config) × ReadsConfig file (Ok config)
+          × Fails image config.plans (Did config) told rest)
 
     -- the output got the plans that the book in the files keeps: each class has one of them
     pub record AreListed (before after : Option (List ℕ)) (last : Held (FileStore D g)) : Type 0
@@ -189,7 +192,7 @@ module _ {D : Type 0} {g : disk.Ghosts D} where
     AreUntold told rest = IsUnfound image told rest
 
     abbrev pub FailsToList : Fault → Left D g → Type 0
-    FailsToList told rest = HasNoConfig told rest ⊎ AreUntold told rest
+    FailsToList told rest = HasNoConfig file told rest ⊎ AreUntold told rest
 
     -- `plans --list`
     abbrev pub ListsPlans : Option (List ℕ) → Option (List ℕ) → Result Status Fault → Left D g
@@ -204,6 +207,7 @@ module _ {D : Type 0} {g : disk.Ghosts D} where
       pub record Makes (making : Making) (before after : Option (List ℕ)) (ended : Status)
           (files : Files D) : Type 0 where
         pub config : Config
+        pub read : ReadsConfig file (Ok config)
         pub done : ended ≡ status.Done
         pub book : Held (FileStore D g)
         pub count : ℕ
@@ -226,6 +230,7 @@ module _ {D : Type 0} {g : disk.Ghosts D} where
       pub record ExportsBook (what : Export) (before after : Option (List ℕ))
           (ended : Result Status Fault) (rest : Left D g) : Type 0 where
         pub config : Config
+        pub read : ReadsConfig file (Ok config)
         pub done : ended ≡ Ok status.Done
         pub last : Held (FileStore D g)
         pub open_is : rest ≡ left.Open last
@@ -235,13 +240,15 @@ module _ {D : Type 0} {g : disk.Ghosts D} where
       pub record ExportsNothing (ended : Result Status Fault) (rest : Left D g) : Type 0 where
         pub told : Fault
         pub ended_is : ended ≡ Err told
-        pub why : HasNoConfig told rest
-            ⊎ ((config : Config) × FailsToExport b image config.plans told rest)
+        pub why : HasNoConfig file told rest
+            ⊎ ((config : Config) × ReadsConfig file (Ok config)
+            × FailsToExport b image config.plans told rest)
 
       -- `check --audit`: the book that the files held was audited, and is still open
       pub record AuditsBook (before after : Option (List ℕ)) (ended : Result Status Fault)
           (rest : Left D g) : Type 0 where
         pub config : Config
+        pub read : ReadsConfig file (Ok config)
         pub last : Held (FileStore D g)
         pub open_is : rest ≡ left.Open last
         pub worked : Worked image config.plans
@@ -251,6 +258,7 @@ module _ {D : Type 0} {g : disk.Ghosts D} where
       pub record ChecksBook (before after : Option (List ℕ)) (ended : Result Status Fault)
           (rest : Left D g) : Type 0 where
         pub config : Config
+        pub read : ReadsConfig file (Ok config)
         pub last : Held (FileStore D g)
         pub open_is : rest ≡ left.Open last
         pub worked : Worked image config.plans
@@ -261,82 +269,87 @@ module _ {D : Type 0} {g : disk.Ghosts D} where
       pub record LooksAtNone (ended : Result Status Fault) (rest : Left D g) : Type 0 where
         pub told : Fault
         pub ended_is : ended ≡ Err told
-        pub why : HasNoConfig told rest
-            ⊎ ((config : Config) × IsRefused image config.plans told rest)
+        pub why : HasNoConfig file told rest
+            ⊎ ((config : Config) × ReadsConfig file (Ok config)
+            × IsRefused image config.plans told rest)
 
       -- `check`: only of a configuration, or of one and the book of a file
       abbrev pub DoesCheck : Option (List ℕ) → Option (List ℕ) → Option (List ℕ)
           → Result Status Fault → Left D g → Type 0
       DoesCheck None before after ended rest =
-          ChecksConfig before after ended × (rest ≡ left.Nothing)
-      DoesCheck (Some file) before after ended rest =
+          ChecksConfig file before after ended × (rest ≡ left.Nothing)
+      DoesCheck (Some database) before after ended rest =
           ChecksBook before after ended rest ⊎ LooksAtNone ended rest
 
       -- `check`, with or without an audit
       abbrev pub ChecksOrAudits : Option (List ℕ) → Option (List ℕ) → Bool → Option (List ℕ)
           → Result Status Fault → Left D g → Type 0
-      ChecksOrAudits before after true (Some file) ended rest =
+      ChecksOrAudits before after true (Some database) ended rest =
           AuditsBook before after ended rest ⊎ LooksAtNone ended rest
       ChecksOrAudits before after audits database ended rest =
           DoesCheck database before after ended rest
 
-    -- ---- all of them
+  -- ---- all of them
 
-    -- What a job does over the files that held the image: how it ends, and what it leaves of them.
-    -- `text` is what standard input has, `before` and `after` what standard output had and has.
-    -- `IsBound` says how an exchange is bound that listens where a server is to.
-    module _ {X M : Type 0} (b : book.Ghosts (Held (FileStore D g))) (x : exchange.Ghosts X)
-        (IsBound : Listening → Cell Bool → X → Type 0) (m : book.Ghosts M)
-        (text before after : Option (List ℕ)) where
-      -- turns of a server over the book of this name, and an import at a moment, with a
-      -- configuration
-      abbrev pub HasServed : List ℕ → Serving → Config → Result Status Fault
-          → Held (FileStore D g) → Held (FileStore D g) → Type 0
-      HasServed name serving config =
-          RunsServer b x WasPut (IsBound serving.listening) None None name serving config
-          before after
+  -- What a job does over the files that held the image: how it ends, and what it leaves of them.
+  -- `text` is what standard input has, `before` and `after` what standard output had and has.
+  -- `IsBound` says how an exchange is bound that listens where a server is to.
+  module _ (image : Image) {X M : Type 0} (b : book.Ghosts (Held (FileStore D g)))
+      (x : exchange.Ghosts X) (IsBound : Listening → Cell Bool → X → Type 0) (m : book.Ghosts M)
+      (text before after : Option (List ℕ)) where
+    -- turns of a server over the book of this name, and an import at a moment, with a
+    -- configuration
+    abbrev pub HasServed : List ℕ → Serving → Config → Result Status Fault
+        → Held (FileStore D g) → Held (FileStore D g) → Type 0
+    HasServed name serving config =
+        RunsServer b x WasPut (IsBound serving.listening) None None name serving config
+        before after
 
-      abbrev pub HasImported : ℕ → Config → Result Status Fault → Held (FileStore D g)
-          → Held (FileStore D g) → Type 0
-      HasImported moment config ended first last =
-          Runs b config.plans moment text first last before after ended
+    abbrev pub HasImported : ℕ → Config → Result Status Fault → Held (FileStore D g)
+        → Held (FileStore D g) → Type 0
+    HasImported moment config ended first last =
+        Runs b config.plans moment text first last before after ended
 
-      -- sessions that were carried forward at a moment, over files that were last changed at
-      -- another one, with a configuration
-      abbrev pub HasForwarded : Carrying → ℕ → ℕ → Config → Result Status Fault
-          → Held (FileStore D g) → Held (FileStore D g) → Type 0
-      HasForwarded carrying moment written_at config ended first last =
-          RunsForward b config.plans carrying moment written_at before after first last ended
+    -- sessions that were carried forward at a moment, over files that were last changed at
+    -- another one, with a configuration
+    abbrev pub HasForwarded : Carrying → ℕ → ℕ → Config → Result Status Fault
+        → Held (FileStore D g) → Held (FileStore D g) → Type 0
+    HasForwarded carrying moment written_at config ended first last =
+        RunsForward b config.plans carrying moment written_at before after first last ended
 
-      -- what is done with the book of this name
-      abbrev pub DoesBookJob : List ℕ → BookJob → Result Status Fault → Left D g → Type 0
-      DoesBookJob name (of_book.Init has_sums) ended rest =
-          ClosesOrFails (MakesNew b has_sums before after) (FailsToMakeNew has_sums) ended rest
-      DoesBookJob name (of_book.Serve serving) ended rest =
-          KeepsOthers serving.telling.status serving.telling.balances before after ended rest
-          ⊎ ClosesOrFails (WorksAndCloses (HasServed name serving))
-          (FailsAtWork (HasServed name serving)) ended rest
-      DoesBookJob name of_book.Import ended rest = (moment : ℕ) × (moment < 2 ^ 53)
-          × ClosesOrFails (WorksAndCloses (HasImported moment)) (FailsAtWork (HasImported moment))
-          ended rest
-      DoesBookJob name (of_book.Forward carrying) ended rest =
-          (moment : ℕ) × (written_at : ℕ) × (moment < 2 ^ 53)
-          × ClosesOrFails (WorksAndCloses (HasForwarded carrying moment written_at))
-          (FailsAtWork (HasForwarded carrying moment written_at)) ended rest
-      DoesBookJob name (of_book.Export what) ended rest =
-          ExportsBook b what before after ended rest ⊎ ExportsNothing b ended rest
-      DoesBookJob name of_book.Migrate ended rest =
-          ClosesOrFails (Migrates b before after) FailsToMigrate ended rest
-      DoesBookJob name of_book.AddPlans ended rest =
-          ClosesOrFails (AddsPlans b before after) FailsToAdd ended rest
-      DoesBookJob name of_book.ListPlans ended rest = ListsPlans before after ended rest
+    -- what is done by the configuration of the first name with the book of the second
+    abbrev pub DoesBookJob : List ℕ → List ℕ → BookJob → Result Status Fault → Left D g → Type 0
+    DoesBookJob file name (of_book.Init has_sums) ended rest =
+        ClosesOrFails (MakesNew image file b has_sums before after)
+        (FailsToMakeNew image file has_sums) ended rest
+    DoesBookJob file name (of_book.Serve serving) ended rest =
+        KeepsOthers serving.telling.status serving.telling.balances before after ended rest
+        ⊎ ClosesOrFails (WorksAndCloses image file (HasServed name serving))
+        (FailsAtWork image file (HasServed name serving)) ended rest
+    DoesBookJob file name of_book.Import ended rest = (moment : ℕ) × (moment < 2 ^ 53)
+        × ClosesOrFails (WorksAndCloses image file (HasImported moment))
+        (FailsAtWork image file (HasImported moment)) ended rest
+    DoesBookJob file name (of_book.Forward carrying) ended rest =
+        (moment : ℕ) × (written_at : ℕ) × (moment < 2 ^ 53)
+        × ClosesOrFails (WorksAndCloses image file (HasForwarded carrying moment written_at))
+        (FailsAtWork image file (HasForwarded carrying moment written_at)) ended rest
+    DoesBookJob file name (of_book.Export what) ended rest =
+        ExportsBook image file b what before after ended rest
+        ⊎ ExportsNothing image file b ended rest
+    DoesBookJob file name of_book.Migrate ended rest =
+        ClosesOrFails (Migrates image file b before after) (FailsToMigrate image file) ended rest
+    DoesBookJob file name of_book.AddPlans ended rest =
+        ClosesOrFails (AddsPlans image file b before after) (FailsToAdd image file) ended rest
+    DoesBookJob file name of_book.ListPlans ended rest =
+        ListsPlans image file before after ended rest
 
-      abbrev pub DoesJob : Job → Result Status Fault → Left D g → Type 0
-      DoesJob (job.Feed file) ended rest =
-          (ended ≡ Ok status.Done
-          → (config : Config) × IsSiteOf file config × FeedsScript m config text before after)
-          × IfErr ended (check.IsUnchecked None) × (rest ≡ left.Nothing)
-      DoesJob (job.Check file database kept audits) ended rest =
-          KeepsOthers kept.status kept.balances before after ended rest
-          ⊎ ChecksOrAudits b before after audits database ended rest
-      DoesJob (job.Book paths asked) ended rest = DoesBookJob paths.database asked ended rest
+    abbrev pub DoesJob : Job → Result Status Fault → Left D g → Type 0
+    DoesJob (job.Feed file) ended rest =
+        (ended ≡ Ok status.Done
+        → (config : Config) × IsSiteOf file config × FeedsScript m config text before after)
+        × IfErr ended (FeedsNothing file) × (rest ≡ left.Nothing)
+    DoesJob (job.Check file database kept audits) ended rest =
+        KeepsOthers kept.status kept.balances before after ended rest
+        ⊎ ChecksOrAudits image file b before after audits database ended rest
+    DoesJob (job.Book paths asked) ended rest =
+        DoesBookJob paths.config paths.database asked ended rest

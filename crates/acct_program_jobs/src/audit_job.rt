@@ -1,8 +1,9 @@
 //! `check --audit` of the book in a file.
-ghost use Rattle.std.specs.Prelude.{◌≡◌, ◌≢◌, ◌⊎◌, IfOk, IfErr};
+ghost use Rattle.std.specs.Prelude.{◌≡◌, ◌≢◌, ◌⊎◌, Ok, IfOk, IfErr};
 ghost use Rattle.sqlite_wal.specs.Files.{image_at};
 ghost use Rattle.acct_site.specs.declared.config.Config.{Config};
 ghost use Rattle.acct_program_commands.specs.Auditing.{Audits};
+ghost use Rattle.acct_program_commands.specs.Checks.{ReadsConfig};
 ghost use Rattle.acct_program_jobs.specs.Commands.{Worked};
 ghost use Rattle.acct_program_jobs.specs.Files.{IsRefused};
 ghost use Rattle.acct_program_jobs.specs.Jobs.{AuditsBook, LooksAtNone, HasNoConfig, text_of};
@@ -30,9 +31,11 @@ pub(crate) fn audit_book<S: Start, W: Write + Drop, E: Write + Drop>(
     start: S,
 ) -> Outcome<W, FileFrom<S>>
     ensures other { IfOk result.ended (λ status. status ≢ Status.BadCommandLine) }
-    ensures does { AuditsBook (image_at S.Start) ⟦<SqlBook<FileStore<FileFrom<S>>> as Book>⟧
+    ensures does { AuditsBook (image_at S.Start) files.entry.config.now
+        ⟦<SqlBook<FileStore<FileFrom<S>>> as Book>⟧
         (W.contents output) (text_of W.contents result.output) result.ended result.left
-        ⊎ LooksAtNone (image_at S.Start) ⟦<SqlBook<FileStore<FileFrom<S>>> as Book>⟧
+        ⊎ LooksAtNone (image_at S.Start) files.entry.config.now
+        ⟦<SqlBook<FileStore<FileFrom<S>>> as Book>⟧
         result.ended result.left }
 {
     match audited_from(runtime, files, output, progress, start) {
@@ -60,11 +63,12 @@ fn audited_from<S: Start, W: Write + Drop, E: Write + Drop>(
 ) -> Result<(Result<Status, Fault>, W, FileConnection<S>), (Fault, W, Left<FileFrom<S>>)>
     ensures done { IfOk result (λ done. IfOk done.0 (λ status. status ≡ Status.Done)) }
     ensures audited { IfOk result (λ done. (config : Config)
-        × Worked (image_at S.Start) config.plans (λ first last.
+        × ReadsConfig files.entry.config.now (Ok config) × Worked (image_at S.Start) config.plans (λ first last.
         Audits ⟦<SqlBook<FileStore<FileFrom<S>>> as Book>⟧ config (W.contents output)
         (W.contents done.1) first last done.0) done.2) }
-    ensures refused { IfErr result (λ e. HasNoConfig e.0 e.2
-        ⊎ ((config : Config) × IsRefused (image_at S.Start) config.plans e.0 e.2)) }
+    ensures refused { IfErr result (λ e. HasNoConfig files.entry.config.now e.0 e.2
+        ⊎ ((config : Config) × ReadsConfig files.entry.config.now (Ok config)
+        × IsRefused (image_at S.Start) config.plans e.0 e.2)) }
 {
     let config = match config_of(runtime, files.config) {
         Ok(config) => config,

@@ -1,10 +1,11 @@
 //! `check` of a configuration and, if one is given, of the book of a file, which may be audited.
-ghost use Rattle.std.specs.Prelude.{◌≢◌, ◌≡◌, ◌⊎◌, IfOk, IfErr};
+ghost use Rattle.std.specs.Prelude.{◌≢◌, ◌≡◌, ◌⊎◌, Ok, IfOk, IfErr};
 ghost use Rattle.std.specs.Option.{option_copied};
 ghost use Rattle.sqlite_wal.specs.Files.{image_at};
 ghost use Rattle.acct_program_commands.specs.KeptNames.{NamesSome};
 ghost use Rattle.acct_site.specs.declared.config.Config.{Config};
 ghost use Rattle.acct_program_commands.specs.Anew.{ChecksOver};
+ghost use Rattle.acct_program_commands.specs.Checks.{ReadsConfig};
 ghost use Rattle.acct_program_commands.specs.Exports.{IsExportFault};
 ghost use Rattle.acct_program_jobs.specs.Commands.{Worked};
 ghost use Rattle.acct_program_jobs.specs.Files.{IsRefused};
@@ -87,7 +88,8 @@ pub(crate) fn check<S: Start, W: Write + Drop, E: Write + Drop>(
     ensures other { IfOk result.ended (λ status. status ≢ Status.BadCommandLine) }
     ensures does { KeepsOthers kept.now.status kept.now.balances (W.contents output)
         (text_of W.contents result.output) result.ended result.left
-        ⊎ ChecksOrAudits (image_at S.Start) ⟦<SqlBook<FileStore<FileFrom<S>>> as Book>⟧
+        ⊎ ChecksOrAudits (image_at S.Start) checking.entry.config.now
+        ⟦<SqlBook<FileStore<FileFrom<S>>> as Book>⟧
         (W.contents output) (text_of W.contents result.output) checking.entry.audits
         (option_copied checking.entry.database) result.ended result.left }
 {
@@ -106,7 +108,8 @@ fn check_or_audit<S: Start, W: Write + Drop, E: Write + Drop>(
     start: S,
 ) -> Outcome<W, FileFrom<S>>
     ensures other { IfOk result.ended (λ status. status ≢ Status.BadCommandLine) }
-    ensures does { ChecksOrAudits (image_at S.Start) ⟦<SqlBook<FileStore<FileFrom<S>>> as Book>⟧
+    ensures does { ChecksOrAudits (image_at S.Start) checking.entry.config.now
+        ⟦<SqlBook<FileStore<FileFrom<S>>> as Book>⟧
         (W.contents output) (text_of W.contents result.output) checking.entry.audits
         (option_copied checking.entry.database) result.ended result.left }
 {
@@ -144,7 +147,8 @@ fn check_files<S: Start, W: Write + Drop>(
     start: S,
 ) -> Outcome<W, FileFrom<S>>
     ensures other { IfOk result.ended (λ status. status ≢ Status.BadCommandLine) }
-    ensures does { DoesCheck (image_at S.Start) ⟦<SqlBook<FileStore<FileFrom<S>>> as Book>⟧ (option_copied checking.entry.database)
+    ensures does { DoesCheck (image_at S.Start) checking.entry.config.now
+        ⟦<SqlBook<FileStore<FileFrom<S>>> as Book>⟧ (option_copied checking.entry.database)
         (W.contents output) (text_of W.contents result.output) result.ended result.left }
 {
     match checking.database {
@@ -164,9 +168,11 @@ fn check_book<S: Start, W: Write + Drop>(
     start: S,
 ) -> Outcome<W, FileFrom<S>>
     ensures other { IfOk result.ended (λ status. status ≢ Status.BadCommandLine) }
-    ensures does { ChecksBook (image_at S.Start) ⟦<SqlBook<FileStore<FileFrom<S>>> as Book>⟧
+    ensures does { ChecksBook (image_at S.Start) files.entry.config.now
+        ⟦<SqlBook<FileStore<FileFrom<S>>> as Book>⟧
         (W.contents output) (text_of W.contents result.output) result.ended result.left
-        ⊎ LooksAtNone (image_at S.Start) ⟦<SqlBook<FileStore<FileFrom<S>>> as Book>⟧
+        ⊎ LooksAtNone (image_at S.Start) files.entry.config.now
+        ⟦<SqlBook<FileStore<FileFrom<S>>> as Book>⟧
         result.ended result.left }
 {
     match checked_from(runtime, files, &mut output, start) {
@@ -193,12 +199,13 @@ fn checked_from<S: Start, W: Write>(
 ) -> Result<(Result<Status, Fault>, FileConnection<S>), (Fault, Left<FileFrom<S>>)>
     ensures done { IfOk result (λ done. IfOk done.0 (λ status. status ≡ Status.Done)) }
     ensures checked { IfOk result (λ done. (config : Config)
-        × Worked (image_at S.Start) config.plans (λ first last.
+        × ReadsConfig files.entry.config.now (Ok config) × Worked (image_at S.Start) config.plans (λ first last.
         ChecksOver ⟦<SqlBook<FileStore<FileFrom<S>>> as Book>⟧ config (W.contents output.old)
         (W.contents output.new) first last done.0) done.1) }
     ensures why { IfOk result (λ done. IfErr done.0 IsExportFault) }
-    ensures refused { IfErr result (λ e. HasNoConfig e.0 e.1
-        ⊎ ((config : Config) × IsRefused (image_at S.Start) config.plans e.0 e.1)) }
+    ensures refused { IfErr result (λ e. HasNoConfig files.entry.config.now e.0 e.1
+        ⊎ ((config : Config) × ReadsConfig files.entry.config.now (Ok config)
+        × IsRefused (image_at S.Start) config.plans e.0 e.1)) }
 {
     let config = config_of(runtime, files.config)?;
     let book = adopted(runtime, files, &config.plans, start)?;

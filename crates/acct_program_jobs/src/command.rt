@@ -13,9 +13,9 @@ ghost use Rattle.acct_book.specs.Step.{Looks};
 ghost use Rattle.acct_program_commands.specs.Exports.{IsExportFault};
 ghost use Rattle.acct_program_serving.specs.Serving.{IsBoundTo};
 ghost use Rattle.acct_program_jobs.specs.Jobs.{DoesBookJob, DoesJob, HasNoConfig};
-ghost use Rattle.acct_program_jobs.specs.Jobs.{ExportsBook, ExportsNothing, FeedsScript};
+ghost use Rattle.acct_program_jobs.specs.Jobs.{ExportsBook, ExportsNothing, FeedsNothing, FeedsScript};
 ghost use Rattle.acct_program_jobs.specs.Jobs.{text_of, IsSiteOf};
-ghost use Rattle.acct_program_commands.specs.Checks.{IsUnchecked};
+ghost use Rattle.acct_program_commands.specs.Checks.{ReadsConfig};
 ghost use Rattle.acct_program_commands.specs.KeptNames.{NamesSome};
 ghost use Rattle.std.specs.Option.{option_copied, option_map};
 
@@ -175,7 +175,8 @@ pub fn serve_files<S: Start, W: Write + Drop, E: Write + Drop>(
         s.event_loop.desk.door.address s.event_loop.desk.door.port × IsSomeAnd s.silenced (λ flag. flag.now ≡ away))
         ⟦<SqlBook<MemStore> as Book>⟧
         text (W.contents output) (text_of W.contents result.output)
-        files.entry.database.now (BookJob.Serve serving.now) result.ended result.left }
+        files.entry.config.now files.entry.database.now (BookJob.Serve serving.now) result.ended
+        result.left }
 {
     match keep_others(runtime, files_of_server(files, &serving.telling)) {
         Ok(()) => {
@@ -272,7 +273,7 @@ fn feed<R: ReadsFiles + AllocGlobal, I: Read + Drop, W: Write + Drop>(
     output: &mut W,
 ) -> Result<Status, Fault>
     ensures other { IfOk result (λ status. status ≢ Status.BadCommandLine) }
-    ensures refused { IfErr result (IsUnchecked None) }
+    ensures refused { IfErr result (FeedsNothing (option_copied file.entry)) }
     ensures done { result ≡ Ok Status.Done → (config : Config)
         × IsSiteOf (option_copied file.entry) config
         × FeedsScript ⟦<SqlBook<MemStore> as Book>⟧ config (I.remaining input)
@@ -298,7 +299,8 @@ pub(crate) fn config_of<R: ReadsFiles + AllocGlobal, D: Disk>(
     runtime: &R,
     file: &Text,
 ) -> Result<Config, (Fault, Left<D>)>
-    ensures { IfErr result (λ e. HasNoConfig e.0 e.1) }
+    ensures read { IfOk result (λ config. ReadsConfig file.now (Ok config)) }
+    ensures refused { IfErr result (λ e. HasNoConfig file.now e.0 e.1) }
 {
     match read_config(runtime, runtime.alloc(), file) {
         Ok(config) => Ok(config),
@@ -315,9 +317,11 @@ fn export<S: Start, W: Write + Drop>(
     start: S,
 ) -> Outcome<W, FileFrom<S>>
     ensures other { IfOk result.ended (λ status. status ≢ Status.BadCommandLine) }
-    ensures does { ExportsBook (image_at S.Start) ⟦<SqlBook<FileStore<FileFrom<S>>> as Book>⟧ what
+    ensures does { ExportsBook (image_at S.Start) files.entry.config.now
+        ⟦<SqlBook<FileStore<FileFrom<S>>> as Book>⟧ what
         (W.contents output) (text_of W.contents result.output) result.ended result.left
-        ⊎ ExportsNothing (image_at S.Start) ⟦<SqlBook<FileStore<FileFrom<S>>> as Book>⟧
+        ⊎ ExportsNothing (image_at S.Start) files.entry.config.now
+        ⟦<SqlBook<FileStore<FileFrom<S>>> as Book>⟧
         result.ended result.left }
 {
     let config = match read_config(runtime, runtime.alloc(), files.config) {

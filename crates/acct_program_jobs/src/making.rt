@@ -60,9 +60,9 @@ pub(crate) fn make<S: Start, W: Write + Drop>(
     start: S,
 ) -> Outcome<W, FileFrom<S>>
     ensures other { IfOk result.ended (λ status. status ≢ Status.BadCommandLine) }
-    ensures does { ClosesOrFails (Makes (image_at S.Start)
+    ensures does { ClosesOrFails (Makes (image_at S.Start) files.entry.config.now
         ⟦<SqlBook<FileStore<FileFrom<S>>> as Book>⟧ making (W.contents output)
-        (text_of W.contents result.output)) (FailsToMake (image_at S.Start) making)
+        (text_of W.contents result.output)) (FailsToMake (image_at S.Start) making files.entry.config.now)
         result.ended result.left }
 {
     let ending = made_and_closed(runtime, making, files, &mut output, start);
@@ -78,10 +78,11 @@ fn made_and_closed<S: Start, W: Write>(
     start: S,
 ) -> Ending<S>
     ensures other { IfOk result (λ done. done.0 ≢ Status.BadCommandLine) }
-    ensures made { IfOk result (λ done. Makes (image_at S.Start)
+    ensures made { IfOk result (λ done. Makes (image_at S.Start) files.entry.config.now
         ⟦<SqlBook<FileStore<FileFrom<S>>> as Book>⟧ making (W.contents output.old)
         (W.contents output.new) done.0 done.1) }
-    ensures failed { IfErr result (λ e. FailsToMake (image_at S.Start) making e.0 e.1) }
+    ensures failed { IfErr result (λ e. FailsToMake (image_at S.Start) making files.entry.config.now
+        e.0 e.1) }
 {
     let config = config_of(runtime, files.config)?;
     let (book, count) = made(runtime, making, files, &config.plans, start)?;

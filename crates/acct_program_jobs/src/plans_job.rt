@@ -21,7 +21,7 @@ pub(crate) fn list_plans<S: Start, W: Write + Drop>(
     start: S,
 ) -> Outcome<W, FileFrom<S>>
     ensures other { IfOk result.ended (λ status. status ≢ Status.BadCommandLine) }
-    ensures does { ListsPlans (image_at S.Start) (W.contents output)
+    ensures does { ListsPlans (image_at S.Start) files.entry.config.now (W.contents output)
         (text_of W.contents result.output) result.ended result.left }
 {
     match listed_from(runtime, files, output, start) {
@@ -45,9 +45,9 @@ fn listed_from<S: Start, W: Write + Drop>(
     output: W,
     start: S,
 ) -> Result<(W, FileConnection<S>), (Fault, Left<FileFrom<S>>)>
-    ensures listed { IfOk result (λ done. AreListed (image_at S.Start) (W.contents output)
+    ensures listed { IfOk result (λ done. AreListed (image_at S.Start) files.entry.config.now (W.contents output)
         (W.contents done.0) done.1) }
-    ensures failed { IfErr result (λ e. FailsToList (image_at S.Start) e.0 e.1) }
+    ensures failed { IfErr result (λ e. FailsToList (image_at S.Start) files.entry.config.now e.0 e.1) }
 {
     let _config = config_of(runtime, files.config)?;
     let (plans, connection) = listed(runtime, files, start)?;

@@ -204,10 +204,10 @@ pub(crate) fn work_on<S: Start, W: Write + Drop, K: Work<W> + Drop>(
 ) -> Outcome<W, FileFrom<S>>
     requires { K.is_ready work }
     ensures other { IfOk result.ended (λ status. status ≢ Status.BadCommandLine) }
-    ensures does { ClosesOrFails (WorksAndCloses (image_at S.Start)
+    ensures does { ClosesOrFails (WorksAndCloses (image_at S.Start) files.entry.config.now
         (λ config ended first last. K.did ⟦<SqlBook<FileStore<FileFrom<S>>> as Book>⟧ work config
         ended first last (W.contents output) (text_of W.contents result.output)))
-        (FailsAtWork (image_at S.Start)
+        (FailsAtWork (image_at S.Start) files.entry.config.now
         (λ config ended first last. K.did ⟦<SqlBook<FileStore<FileFrom<S>>> as Book>⟧ work config
         ended first last (W.contents output) (text_of W.contents result.output)))
         result.ended result.left }

@@ -3,7 +3,7 @@ ghost use Rattle.std.specs.Prelude.{◌<◌, ◌^◌};
 
 use acct_book::MemBook;
 use acct_model::{Octets, Text};
-use acct_program_commands::{FileRounds, Gauges, KeptBalances, SiteFile, config_from};
+use acct_program_commands::{FileRounds, Gauges, KeptBalances, SiteFile, config_in};
 use acct_service::lists::{ListExchange, Planned};
 use acct_service::{Call, Event, Rounds, Rules, Served, Until, What, serve_in_slices};
 use acct_site::Config;
@@ -23,7 +23,7 @@ pub(crate) const NEW: &str =
 
 /// The configuration of a text.
 pub fn site_of(alloc: Global, text: &str) -> Result<Config, Fail> {
-    match config_from(alloc, &mut text.as_bytes()) {
+    match config_in(alloc, Ok(Octets::from_slice(alloc, text.as_bytes())?)) {
         Ok(config) => Ok(config),
         Err(_) => Err("no configuration".into()),
     }

@@ -8,8 +8,9 @@ returns-in-Ok-clause-other g c = done_well c.in-Ok.ended c.in-Ok.ensures.done
 pub returns-in-Ok-clause-does : goal.returns-in-Ok-clause-does
 returns-in-Ok-clause-does g c = inl (record {
   config = c.in-Ok.ensures.checked.0;
+  read = c.in-Ok.ensures.checked.1;
   last = c.in-Ok.connection;
   open_is = refl;
-  worked = c.in-Ok.ensures.checked.1;
+  worked = c.in-Ok.ensures.checked.2;
   why = c.in-Ok.ensures.why;
 })

@@ -8,6 +8,7 @@ returns-in_err-files-clause-failed g c =
     c.from_residual-in_err-files.ensures.1 in
     rw (p.1, p.2) (inr (
       c.in_ok-config.config,
+      c.in_ok-config.ensures.read,
       inr (inl (record {
         book = c.in_ok-book.book;
         count = c.in_ok-book.count;
@@ -19,6 +20,7 @@ returns-in_err-files-clause-failed g c =
 pub returns-in-Ok-clause-made : goal.returns-in-Ok-clause-made
 returns-in-Ok-clause-made g c = record {
   config = c.in_ok-config.config;
+  read = c.in_ok-config.ensures.read;
   done = refl;
   book = c.in_ok-book.book;
   count = c.in_ok-book.count;
@@ -29,6 +31,7 @@ returns-in-Ok-clause-made g c = record {
 pub returns-clause-failed : goal.returns-clause-failed
 returns-clause-failed g c = inr (
   c.in_ok-config.config,
+  c.in_ok-config.ensures.read,
   inr (inr (record {
     untold = refl;
     files = c.in_ok-files.files;

@@ -7,13 +7,13 @@ pub returns-clause-does : goal.returns-clause-does
 returns-clause-does g c =
     let out = c.with_book-2.ensures in
     rw out.output (ended_so _ _ c.finished.result _ _ out.ok out.err
-    (with_config _ c.in-Ok.config c.finished.result
+    (with_config _ _ c.in-Ok.config c.in-Ok.ensures.read c.finished.result
     (closes_if _ _ _ _ _ (record {
       first = c.in-Ok-adopted.book;
       adopted = c.in-Ok-adopted.ensures.adopted;
       did = rw c.into_connection.ensures c.over-ended.ensures.did;
     }) _ c.finished.ensures.closed))
-    (fails_by _ _ c.in-Ok.config c.finished.result
+    (fails_by _ _ _ c.in-Ok.config c.in-Ok.ensures.read c.finished.result
     (fails_if _ _ _ _ _ (record {
       first = c.in-Ok-adopted.book;
       adopted = c.in-Ok-adopted.ensures.adopted;
