@@ -1,7 +1,10 @@
 mod Steps
 mod Visits
 mod Sliced
+mod OneHistory
+mod Promised
 mod WorkedCalls
+mod WorkedPromise
 mod AlikePlans
 mod Spans
 mod Lives

@@ -3,6 +3,7 @@ pub mod Sending
 pub mod Told
 pub mod Serving
 pub mod Slices
+pub mod Promise
 pub mod Listed
 pub mod Life
 pub mod Settling

@@ -3,6 +3,7 @@ ghost use Rattle.std.specs.Prelude.{◌++◌, List, Option};
 ghost use Rattle.acct_model.specs.declared.plan.Plan.{Plan};
 ghost use Rattle.acct_service.specs.declared.exchange.Call.{Call};
 ghost use Rattle.acct_service.specs.Machine.{Visit};
+ghost use Rattle.acct_service.specs.Promise.{BalancesAreRight, OpenBooksBegin};
 ghost use Rattle.acct_service.specs.Serving.{Attends};
 ghost use Rattle.acct_service.specs.Settling.{LifeSettles};
 ghost use Rattle.acct_service.specs.Slices.{SlicesStand};
@@ -10,6 +11,16 @@ ghost use Rattle.acct_service.specs.Stops.{StopsAreLived};
 ghost use Rattle.acct_service.specs.Ages.{TakesNoneTooOld, CarriedStayCarried};
 
 use acct_book::Book;
+
+/// Every balance is right, whatever events come to a server, lost, repeated or late. There is one
+/// history of what was accepted. By it each answer is the one that is due. The balance of each
+/// account is the sum of its vouchers, less the prices of its sessions' greatest totals. So it is
+/// in what a stop leaves.
+pub fn every_balance_is_right<B: Book>()
+    ensures visits { BalancesAreRight B.Book }
+    // What it needs of the book that a server began with, an open one has.
+    ensures begun { OpenBooksBegin B.Book }
+{}
 
 /// Disturbed delivery. What was accepted or acknowledged is never lost. Suppose the sent entries
 /// are consistent, nothing else was accepted, each top-up was acknowledged, and an acknowledged
