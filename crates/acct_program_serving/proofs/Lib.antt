@@ -2,3 +2,5 @@
 pub mod HandedOn
 -- the files of balances, by the history of the book
 mod Balances
+-- the promise, by the visits of a run
+pub mod Promised

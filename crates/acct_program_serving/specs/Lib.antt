@@ -3,3 +3,4 @@ pub mod Counts
 pub mod Files
 pub mod Runs
 pub mod Serving
+pub mod Promise
