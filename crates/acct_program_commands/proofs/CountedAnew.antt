@@ -1,5 +1,6 @@
 -- What a walk has counted, and which rows it met.
-use Rattle.std.proofs.Common.{◌≡◌, ◌+◌, ◌++◌, ◌∷◌, [], ℕ, Bool, List, None, map, refl, ◌∙◌, ap, sym, subst}
+use Rattle.std.proofs.Common.{◌≡◌, ◌+◌, ◌++◌, ◌∷◌, [], ℕ, Bool, List, None, map, refl, ◌∙◌, ap}
+use Rattle.std.proofs.Common.{sym, subst}
 use Rattle.std.specs.Prelude.{cond}
 use Rattle.std.specs.List.{count_by}
 use Rattle.std.proofs.lemmas.List.Sums.{sum_by_push}
@@ -15,7 +16,8 @@ use Rattle.acct_book.proofs.Walking.{walk_of}
 pub one_more : {X : Type 0} (p : X → Bool) (xs : List X) (x : X) (count : ℕ)
     (one : ℕ) → count ≡ count_by p xs → one ≡ cond (p x) 1 0
     → count + one ≡ count_by p (xs ++ x ∷ [])
-one_more p xs x count one is one_is = subst (λ n. count + n ≡ count_by p (xs ++ x ∷ [])) (sym one_is)
+one_more p xs x count one is one_is =
+    subst (λ n. count + n ≡ count_by p (xs ++ x ∷ [])) (sym one_is)
     (ap (λ n. n + cond (p x) 1 0) is ∙ sym (sum_by_push (λ y. cond (p y) 1 0) xs x))
 
 -- a whole walk met each row

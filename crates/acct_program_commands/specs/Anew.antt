@@ -4,7 +4,6 @@ use Rattle.std.specs.Prelude.{◌≡◌, ◌==◌, ℕ, Bool, false, not, ◌&&�
 use Rattle.std.specs.Prelude.{Option, None, Some, codes, decimal, map, OnOk, Result, nat_eq}
 use Rattle.std.specs.Prelude.{if◌then◌else◌}
 use Rattle.std.specs.List.{concat, count_by, ends_with}
-use Rattle.std.specs.Io.KnownBytes.{Appends}
 use Rattle.acct_model.specs.Coded.{coded}
 use Rattle.acct_book.specs.declared.book.Book.{Ghosts}
 use Rattle.acct_book.specs.Content.{Content, key_of}
@@ -25,15 +24,16 @@ use Rattle.acct_program_commands.specs.Survey.{is_live}
 abbrev pub names_payer : RowFacts → Bool
 names_payer row = ends_with nat_eq row.session (concat (codes "/" ∷ coded row.account ∷ []))
 
--- The session is of another name today. What a proxy passes on is told of a device of it, and not of
--- the proxy.
+-- The session is of another name today. What a proxy passes on is told of a device of it, and not
+-- of the proxy.
 abbrev pub is_renamed : Option StampedClient → RowFacts → Bool
 is_renamed None row = false
 is_renamed (Some client) row = client.proxy || not (names_payer row)
 
 -- it is open, and of another name today
 abbrev pub is_anew : Stamping → RowFacts → Bool
-is_anew stamping row = is_live row.state && is_renamed (stamped_called row.client (Some stamping)) row
+is_anew stamping row =
+    is_live row.state && is_renamed (stamped_called row.client (Some stamping)) row
 
 -- so many sessions of a content are charged anew; the content is known while the book is open
 abbrev pub CountsAnew : Stamping → Content → Type 0 → ℕ → Type 0
@@ -56,10 +56,10 @@ anew_line count =
 
 -- The book was only read, and not at all for a site without stamps. The sizes of the configuration
 -- were printed, and how many sessions are charged anew.
-pub record ChecksOver {B : Type 0} (b : Ghosts B) (config : Config) (before after : Option (List ℕ))
+pub record ChecksOver {B : Type 0} (b : Ghosts B) (config : Config) (Prints : List ℕ → Type 0)
     (old new : B) (ended : Result Status Fault) : Type 0 where
   pub looks : OnlyLooks b old new
   pub unasked : config.clients.stamping ≡ None → new ≡ old
   pub told : OnOk ended ((count : ℕ)
       × AreAnew config.clients.stamping (b.content old) (b.is_open new) count
-      × Appends before after (sizes_line config ++ anew_line count))
+      × Prints (sizes_line config ++ anew_line count))

@@ -40,7 +40,8 @@ IsRead (Err why) (Err told) = told ≡ unread why
 abbrev pub ReadsConfig : List ℕ → Result Config Fault → Type 0
 ReadsConfig file result = (reading : Reading) × WasRead file reading × IsRead reading result
 
--- why the configuration under a name was not checked: there is none, or its sizes could not be written
+-- why the configuration under a name was not checked: there is none, or its sizes could not be
+-- written
 abbrev pub IsUnchecked : List ℕ → Fault → Type 0
 IsUnchecked file told = ReadsConfig file (Err told) ⊎ (told ≡ fault.CannotWrite)
 
@@ -52,8 +53,8 @@ sizes_line config =
     ++ decimal (length config.keys.list) ++ codes " keys" ++ 10 ∷ []
 
 -- `check` of the configuration under a name: its sizes were printed and nothing else, or why not
-pub record ChecksConfig (file : List ℕ) (before after : Option (List ℕ)) (ended : Result Status Fault)
-    : Type 0 where
+pub record ChecksConfig (file : List ℕ) (before after : Option (List ℕ))
+    (ended : Result Status Fault) : Type 0 where
   pub sizes : OnOk ended ((config : Config) × ReadsConfig file (Ok config)
       × Appends before after (sizes_line config))
   pub refused : IfErr ended (IsUnchecked file)

@@ -1,5 +1,5 @@
--- What the files of the system were seen to have. No contract of std says it: so each of these is given
--- by one function, which is read by eye, and only its proof unfolds it.
+-- What the files of the system were seen to have. No contract of std says it: so each of these is
+-- given by one function, which is read by eye, and only its proof unfolds it.
 use Rattle.std.specs.Prelude.{⊤, ℕ, List}
 use Rattle.acct_program_commands.specs.Sights.{Reading}
 

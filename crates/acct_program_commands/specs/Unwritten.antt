@@ -1,6 +1,6 @@
 -- A file that is rewritten from time to time: before its first write, and at each one.
-use Rattle.std.specs.Prelude.{◌≡◌, ℕ, ◌+◌, ◌%◌, ◌^◌, Bool, true, false, List, ◌++◌, Option, None, Some}
-use Rattle.std.specs.Prelude.{codes}
+use Rattle.std.specs.Prelude.{◌≡◌, ℕ, ◌+◌, ◌%◌, ◌^◌, Bool, true, false, List, ◌++◌, codes}
+use Rattle.std.specs.Prelude.{Option, None, Some}
 use Rattle.acct_program_commands.specs.declared.fresh_file.FreshFile.{FreshFile}
 
 -- nothing was written yet, and no write failed

@@ -35,8 +35,8 @@ pub fn run_check<R: ReadsFiles, W: Write>(
     write_sizes(output, &config)
 }
 
-/// Prints how many clients, plans and keys a configuration has, and how many open sessions of a book
-/// are charged anew if they go on, since they began before their clients' logins were stamped.
+/// Prints how many clients, plans and keys a configuration has, and how many open sessions of a
+/// book are charged anew if they go on, since they began before their clients' logins were stamped.
 ///
 /// # Errors
 ///
@@ -48,8 +48,8 @@ pub fn check_over<B: Book, W: Write>(
     output: &mut W,
 ) -> Result<Status, Fault>
     ensures done { IfOk result (λ status. status ≡ Status.Done) }
-    ensures checks { ChecksOver B.Book config.now (W.contents output.old) (W.contents output.new)
-        book.old book.new result }
+    ensures checks { ChecksOver B.Book config.now
+        (Appends (W.contents output.old) (W.contents output.new)) book.old book.new result }
     ensures why { IfErr result IsExportFault }
 {
     let count = anew_in(alloc, book, config.clients.stamping())?;

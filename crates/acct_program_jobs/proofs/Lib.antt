@@ -2,3 +2,5 @@
 pub mod Found
 -- how a command ended that a fault ended
 pub mod Ended
+-- the promise over the files, by that of `serve`
+mod Promised

@@ -1,7 +1,7 @@
 -- What each job does: how it ends, what it has printed if it ends well, and what it leaves of the
 -- book's files, with some configuration. No contract can name the file that it was read from.
-use Rattle.std.specs.Prelude.{◌≡◌, ◌⊎◌, ⊤, ◌<◌, ◌^◌, ℕ, List, [], ◌∷◌, ◌++◌, Option, Some, None}
-use Rattle.std.specs.Prelude.{Result, Ok, Err, IfErr, IfSome, OnOk, Bool, true, codes, decimal}
+use Rattle.std.specs.Prelude.{◌≡◌, ◌⊎◌, ◌<◌, ◌^◌, ℕ, List, [], ◌∷◌, ◌++◌, Option, Some, None}
+use Rattle.std.specs.Prelude.{Result, Ok, Err, IfErr, IfSome, Bool, true, codes, decimal}
 use Rattle.std.specs.Io.KnownBytes.{Appends}
 use Rattle.std.specs.declared.cell.Cell.{Cell}
 use Rattle.sqlite_disk.specs.declared.Disk as disk
@@ -262,7 +262,7 @@ module _ {D : Type 0} {g : disk.Ghosts D} where
         pub last : Held (FileStore D g)
         pub open_is : rest ≡ left.Open last
         pub worked : Worked image config.plans
-            (λ first last. ChecksOver b config before after first last ended) last
+            (λ first last. ChecksOver b config (Appends before after) first last ended) last
         pub why : IfErr ended IsExportFault
 
       -- why no book was looked at

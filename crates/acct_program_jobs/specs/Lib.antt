@@ -2,4 +2,5 @@ pub mod Commands
 pub mod Faults
 pub mod Files
 pub mod Jobs
+pub mod Promise
 pub mod inner

@@ -63,7 +63,8 @@ fn audited_from<S: Start, W: Write + Drop, E: Write + Drop>(
 ) -> Result<(Result<Status, Fault>, W, FileConnection<S>), (Fault, W, Left<FileFrom<S>>)>
     ensures done { IfOk result (λ done. IfOk done.0 (λ status. status ≡ Status.Done)) }
     ensures audited { IfOk result (λ done. (config : Config)
-        × ReadsConfig files.entry.config.now (Ok config) × Worked (image_at S.Start) config.plans (λ first last.
+        × ReadsConfig files.entry.config.now (Ok config)
+        × Worked (image_at S.Start) config.plans (λ first last.
         Audits ⟦<SqlBook<FileStore<FileFrom<S>>> as Book>⟧ config (W.contents output)
         (W.contents done.1) first last done.0) done.2) }
     ensures refused { IfErr result (λ e. HasNoConfig files.entry.config.now e.0 e.2

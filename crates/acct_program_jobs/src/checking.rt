@@ -1,5 +1,6 @@
 //! `check` of a configuration and, if one is given, of the book of a file, which may be audited.
 ghost use Rattle.std.specs.Prelude.{◌≢◌, ◌≡◌, ◌⊎◌, Ok, IfOk, IfErr};
+ghost use Rattle.std.specs.Io.KnownBytes.{Appends};
 ghost use Rattle.std.specs.Option.{option_copied};
 ghost use Rattle.sqlite_wal.specs.Files.{image_at};
 ghost use Rattle.acct_program_commands.specs.KeptNames.{NamesSome};
@@ -199,9 +200,10 @@ fn checked_from<S: Start, W: Write>(
 ) -> Result<(Result<Status, Fault>, FileConnection<S>), (Fault, Left<FileFrom<S>>)>
     ensures done { IfOk result (λ done. IfOk done.0 (λ status. status ≡ Status.Done)) }
     ensures checked { IfOk result (λ done. (config : Config)
-        × ReadsConfig files.entry.config.now (Ok config) × Worked (image_at S.Start) config.plans (λ first last.
-        ChecksOver ⟦<SqlBook<FileStore<FileFrom<S>>> as Book>⟧ config (W.contents output.old)
-        (W.contents output.new) first last done.0) done.1) }
+        × ReadsConfig files.entry.config.now (Ok config)
+        × Worked (image_at S.Start) config.plans (λ first last.
+        ChecksOver ⟦<SqlBook<FileStore<FileFrom<S>>> as Book>⟧ config
+        (Appends (W.contents output.old) (W.contents output.new)) first last done.0) done.1) }
     ensures why { IfOk result (λ done. IfErr done.0 IsExportFault) }
     ensures refused { IfErr result (λ e. HasNoConfig files.entry.config.now e.0 e.1
         ⊎ ((config : Config) × ReadsConfig files.entry.config.now (Ok config)
@@ -220,8 +222,8 @@ fn checked<T: Alter + Drop, W: Write>(
     output: &mut W,
 ) -> (Result<Status, Fault>, Connection<T>)
     ensures done { IfOk result.0 (λ status. status ≡ Status.Done) }
-    ensures checks { ChecksOver ⟦<SqlBook<T> as Book>⟧ config.now (W.contents output.old)
-        (W.contents output.new) book result.1 result.0 }
+    ensures checks { ChecksOver ⟦<SqlBook<T> as Book>⟧ config.now
+        (Appends (W.contents output.old) (W.contents output.new)) book result.1 result.0 }
     ensures why { IfErr result.0 IsExportFault }
 {
     let ended = check_over(alloc, config, &mut book, output);

@@ -14,6 +14,7 @@ mod command;
 mod database;
 mod explained_site;
 mod feed_job;
+pub mod laws;
 mod left;
 mod looked;
 mod making;

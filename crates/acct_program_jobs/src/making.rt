@@ -62,7 +62,8 @@ pub(crate) fn make<S: Start, W: Write + Drop>(
     ensures other { IfOk result.ended (λ status. status ≢ Status.BadCommandLine) }
     ensures does { ClosesOrFails (Makes (image_at S.Start) files.entry.config.now
         ⟦<SqlBook<FileStore<FileFrom<S>>> as Book>⟧ making (W.contents output)
-        (text_of W.contents result.output)) (FailsToMake (image_at S.Start) making files.entry.config.now)
+        (text_of W.contents result.output))
+        (FailsToMake (image_at S.Start) making files.entry.config.now)
         result.ended result.left }
 {
     let ending = made_and_closed(runtime, making, files, &mut output, start);

@@ -45,9 +45,10 @@ fn listed_from<S: Start, W: Write + Drop>(
     output: W,
     start: S,
 ) -> Result<(W, FileConnection<S>), (Fault, Left<FileFrom<S>>)>
-    ensures listed { IfOk result (λ done. AreListed (image_at S.Start) files.entry.config.now (W.contents output)
-        (W.contents done.0) done.1) }
-    ensures failed { IfErr result (λ e. FailsToList (image_at S.Start) files.entry.config.now e.0 e.1) }
+    ensures listed { IfOk result (λ done. AreListed (image_at S.Start) files.entry.config.now
+        (W.contents output) (W.contents done.0) done.1) }
+    ensures failed { IfErr result (λ e.
+        FailsToList (image_at S.Start) files.entry.config.now e.0 e.1) }
 {
     let _config = config_of(runtime, files.config)?;
     let (plans, connection) = listed(runtime, files, start)?;

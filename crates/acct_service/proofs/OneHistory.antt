@@ -146,7 +146,8 @@ asked_alike (look query) octets one other x y =
     both_none one other (looked_none one _ x) (looked_none other _ y)
 asked_alike (credit topup) octets one other (first, told, is) (second, told_too, is_too) =
     by_effects one other (effect_of (entry.TopUp topup) first)
-    (effect_of (entry.TopUp topup) second) is is_too (recorded_alike (entry.TopUp topup) first second (sym told ∙ told_too))
+    (effect_of (entry.TopUp topup) second) is is_too
+    (recorded_alike (entry.TopUp topup) first second (sym told ∙ told_too))
 
 -- one answer to one event has one effect on a history
 event_alike : (oldest : Option ℕ) (config : Config) (moment : ℕ) (what : What) (answer : Answer)
