@@ -53,7 +53,17 @@ RULES = (
             JOBS + "database.rt": "it makes the two files of a new book",
         },
     ),
+    (
+        "a proof that a file was put or read",
+        r"\bunfolding\([^)]*\bPuts::\w+",
+        {
+            CHANGES: "`put_in_place` alone says that a file was put",
+            COMMANDS + "config_file.rt": "`read_file` alone says what was read",
+        },
+    ),
 )
+# A proof that unfolds one of these says of a file whatever it likes.
+SEALED = re.compile(r"\bunfolding\b[^\n]*\b(?:WasPut|WasRead)\b")
 
 # How many calls of what binds sockets, or of what calls that, stand in each source: no second one.
 BINDS = re.compile(r"\b\w+::bind\w*\(|(?<!fn )\b(?:bound|bind_reports)\(")
@@ -104,6 +114,12 @@ BY_EYE = (
     (MAIN, "order_of", "the order is the one that the words ask for"),
     (READS, None, "it looks at files, and changes none"),
     (CHANGES, None, "it makes and replaces files as its comments say"),
+    (
+        COMMANDS + "config_file.rt",
+        "read_file",
+        "what it gives is all that the file of this name has, or why not",
+    ),
+    (COMMANDS + "config_file.rt", "opened", "the file read is the one named"),
     (JOBS + "database.rt", "opened", "the file opened is the one named"),
     (
         "crates/acct_net/src/datagrams.rt",
@@ -124,7 +140,7 @@ BY_EYE = (
     ),
     ("crates/acct_net/src/datagrams.rt", "send_waiting", "it sends the octets that it is given"),
 )
-MOST_BY_EYE = 207
+MOST_BY_EYE = 227
 MOST_OF_CHANGES = 120
 
 USE = re.compile(r"^\s*(?:pub(?:\([^)]*\))? )?use ([^;]+);", re.M)
@@ -221,6 +237,18 @@ def check_by_eye(checker):
         checker.find(1, f"what is read by eye has {total} lines; at most {MOST_BY_EYE} are right")
 
 
+def check_sealed(checker):
+    """What is known of a file comes from the two functions that a person reads, once from each."""
+    for path in (CHANGES, COMMANDS + "config_file.rt"):
+        if len(re.findall(r"\bPuts::\w+\)", text_of(path))) != 1:
+            checker.page = path
+            checker.find(1, "it unfolds what is known of a file other than once")
+    for path in checker.tree.files:
+        if path.startswith("crates/") and path.endswith(".antt") and SEALED.search(text_of(path)):
+            checker.page = path
+            checker.find(1, "its proof unfolds what is known of a file")
+
+
 def check(checker):
     """No other source has what a rule finds, and each that may have it is there."""
     for path in filter(is_of_program, checker.tree.files):
@@ -228,6 +256,7 @@ def check(checker):
         for at, found, what in found_in(path, text):
             line = text.count("\n", 0, at) + 1
             checker.find(line, f"`{found}`: {what} is not for this file")
+    check_sealed(checker)
     check_by_eye(checker)
     checker.page = ".ci/claims_lib/openers.py"
     for path, why in allowed():

@@ -54,6 +54,8 @@ def in_definitions(text):
         while re.search(r"[({][^(){}:]*[)}]", kind):
             kind = re.sub(r"[({][^(){}:]*[)}]", "", kind)
         count = sum(len(it.split()) for it in re.findall(r"[({]([^(){}:]+) : ", kind))
+        while re.search(r"[({][^(){}]*[)}]", kind):
+            kind = re.sub(r"[({][^(){}]*[)}]", ")", kind)
         # An arrow after no named parameter is of one that has no name. A lemma's are its premises.
         if head[2] and count + len(re.findall(r"(?<![)}]) →", kind)) > PARAMETERS:
             yield "parameters", head.start()
