@@ -56,7 +56,7 @@ def requests(checker):
     found = re.findall(r"    /// `(/[A-Za-z/\[\]]+)`: (.+?)\.\n    (\w+),", routes)
     for path, about, name in found:
         method = "POST" if re.search(rf"Endpoint::{name} => \"POST\"", routes) else "GET"
-        role = re.search(rf"Endpoint::{name}, Role::(\w+)", asking)
+        role = re.search(rf"Endpoint::{name}, Role::(\w+)", asking) or ("", "Account")
         yield f"| `{path}` | {method} | {BEARERS[role[1]]} | {about} |"
     fixed = {it[0] for it in found if it[0].islower()}
     if fixed != set(re.findall(r'router.insert\("([^"]+)"', routes)):

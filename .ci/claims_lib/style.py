@@ -13,7 +13,7 @@ MOST = {
     "CHANGELOG.md": 1048,
     "README.md": 650,
     "docs/ACCESS-SERVERS.md": 885,
-    "docs/DESK.md": 1325,
+    "docs/DESK.md": 1485,
     "docs/FAULTS.md": 265,
     "docs/FORWARD.md": 1033,
     "docs/FRONTDESK.md": 660,

@@ -2,6 +2,7 @@ pub mod FieldLemmas
 pub mod FramingLemmas
 pub mod RouteLemmas
 pub mod KeyLemmas
+pub mod DotLemmas
 pub mod AskLemmas
 pub mod CutLemmas
 pub mod PageLemmas
@@ -15,3 +16,4 @@ pub mod Parts
 pub mod PartLaws
 pub mod OwnIds
 pub mod ToldStamps
+pub mod SignedKeyLaws

@@ -19,7 +19,6 @@ use Rattle.acct_desk.specs.declared.routes.Endpoint.TheVariants as at
 use Rattle.acct_desk.specs.declared.keys.Role.{Role}
 use Rattle.acct_desk.specs.declared.keys.Role.TheVariants.{Account, Cashier, Clerk}
 use Rattle.acct_desk.specs.declared.keys.Role.TheVariants as role
-use Rattle.acct_desk.specs.declared.keys.DeskKey.{DeskKey}
 use Rattle.acct_desk.specs.declared.keys.Signing.{Signing}
 use Rattle.acct_desk.specs.declared.asking.Page.{Page}
 use Rattle.acct_desk.specs.declared.asking.Page.TheVariants as page
@@ -27,7 +26,7 @@ use Rattle.acct_desk.specs.declared.asking.Refusal.{Refusal}
 use Rattle.acct_desk.specs.declared.asking.Refusal.TheVariants as refusal
 use Rattle.acct_desk.specs.Request.{IsHeadOf, reach_of, reach_of_fields, fields_of, values_of}
 use Rattle.acct_desk.specs.Routes.{endpoint_of, method_of}
-use Rattle.acct_desk.specs.Keys.{KeysFacts, role_at}
+use Rattle.acct_desk.specs.Keys.{KeysFacts, role_of_token}
 use Rattle.acct_desk.specs.Paths.{LoginPath, login_path, part_path, account_path}
 use Rattle.acct_desk.specs.Logins.{Login, login_asked}
 use Rattle.acct_desk.specs.TopUpBodies.{topup_of_value}
@@ -80,11 +79,21 @@ abbrev pub ask_of_account : Option (Page × List ℕ) → Ask
 ask_of_account None = refused refusal.NoPath
 ask_of_account (Some (page, account)) = me page (percent_decode account)
 
+-- the page that an account's key shows at an endpoint
+abbrev pub own_page : Endpoint → Option Page
+own_page Balance = Some page.Balance
+own_page Sessions = Some page.Sessions
+own_page MyTopUps = Some page.TopUps
+own_page other = None
+
+abbrev pub ask_of_own : Option Page → List ℕ → Ask
+ask_of_own None account = refused refusal.NotAllowed
+ask_of_own (Some page) account = me page account
+
 -- what a request with this role asks for at this endpoint
 abbrev pub ask_of_role : KeysFacts → List Plan → Endpoint → Role → List ℕ → List ℕ → ℕ → Ask
-ask_of_role keys plans Balance (Account account) path body moment = me page.Balance account
-ask_of_role keys plans Sessions (Account account) path body moment = me page.Sessions account
-ask_of_role keys plans MyTopUps (Account account) path body moment = me page.TopUps account
+ask_of_role keys plans endpoint (Account account) path body moment =
+    ask_of_own (own_page endpoint) account
 ask_of_role keys plans TopUps Cashier path body moment = ask_of_json (json_of body) moment
 ask_of_role keys plans Overruns Cashier path body moment = overruns
 ask_of_role keys plans TopUps Clerk path body moment = ask_of_json (json_of body) moment
@@ -112,9 +121,9 @@ ask_of_endpoint keys plans (Some endpoint) method role path body moment =
 abbrev pub path_of : List ℕ → List ℕ
 path_of target = before_first (λ octet. octet == 63) target
 
--- the role of the key whose token is the first value of Desk-Key
-abbrev pub role_of_fields : List DeskKey → List (List ℕ × List ℕ) → Option Role
-role_of_fields keys fields = option_and_then (λ token. role_at token keys)
+-- the role of the key that the first value of Desk-Key is at a moment
+abbrev pub role_of_fields : KeysFacts → ℕ → List (List ℕ × List ℕ) → Option Role
+role_of_fields keys moment fields = option_and_then (role_of_token keys moment)
     (slice_get (values_of (codes "desk-key") fields) 0)
 
 abbrev pub ask_of_reach : Reach → (ℕ → Ask) → Ask
@@ -129,7 +138,7 @@ abbrev pub ask_of_fields : KeysFacts → List Plan → List ℕ → ℕ → ℕ 
 ask_of_fields keys plans request moment head target method fields =
     ask_of_reach (reach_of_fields head (length request) fields) (λ end.
     ask_of_endpoint keys plans (endpoint_of keys (path_of target)) method
-    (role_of_fields keys.list fields) (path_of target) (slice_range request head end) moment)
+    (role_of_fields keys moment fields) (path_of target) (slice_range request head end) moment)
 
 -- what the octets ask for, by the head that begins them, if there is one
 abbrev pub ask_of : KeysFacts → List Plan → List ℕ → ℕ → Option RequestHead → Ask

@@ -2,10 +2,12 @@
 use Rattle.std.specs.Prelude.{ℕ, nat_le, Bool, true, false, ◌&&◌, ◌||◌, ◌==◌, List, length}
 use Rattle.std.specs.Prelude.{bytes_eq, Option, None, option_map, is_some}
 use Rattle.std.specs.List.{list_all, list_any, find}
+use Rattle.std.specs.Option.{option_or}
 use Rattle.acct_desk.specs.declared.keys.Role.{Role}
 use Rattle.acct_desk.specs.declared.keys.Role.TheVariants.{Account, Cashier, Clerk, Logins}
 use Rattle.acct_desk.specs.declared.keys.DeskKey.{DeskKey}
 use Rattle.acct_desk.specs.declared.keys.Signing.{Signing}
+use Rattle.acct_desk.specs.SignedKeys.{signed_account}
 
 -- the keys of a desk, and what it signs with, if it signs
 pub record KeysFacts : Type 0 where
@@ -33,6 +35,14 @@ has_token token key = bytes_eq token key.token
 -- what the key with this token lets its bearer do, if there is one
 abbrev pub role_at : List ℕ → List DeskKey → Option Role
 role_at token keys = option_map (λ key. key.role) (find (has_token token) keys)
+
+-- What a token lets its bearer do at a moment: what the key of the list that has it does, else what
+-- the own key of the account of a signed key does. No token of the list has a `.`, and each signed
+-- key has two, so no token is both.
+abbrev pub role_of_token : KeysFacts → ℕ → List ℕ → Option Role
+role_of_token keys moment token =
+    option_or (role_at token keys.list)
+    (option_map Account (signed_account keys.signing moment token))
 
 -- the bearer may ask about logins
 abbrev pub lets_logins : Role → Bool

@@ -1,3 +1,4 @@
+pub mod SignedKeys
 pub mod Keys
 pub mod Paths
 pub mod Routes
@@ -12,5 +13,6 @@ pub mod Responses
 pub mod Handling
 pub mod Laws
 pub mod LoginLaws
+pub mod SignedKeyLaws
 pub mod OverdrawnLaws
 pub mod inner

@@ -1,5 +1,6 @@
 -- What private functions and proofs need, and no public contract reaches.
 pub mod AskView
+pub mod BearerView
 pub mod Cut
 pub mod Head
 pub mod LoginView

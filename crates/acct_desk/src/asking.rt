@@ -1,16 +1,18 @@
 //! What a request asks for.
 ghost use Rattle.std.specs.Prelude.{◌≡◌, ◌≤◌, ◌<◌, ◌^◌, IfOk, IsUtf8, All, length, map, None};
-ghost use Rattle.std.specs.Option.{option_copied};
+ghost use Rattle.std.specs.Prelude.{option_map};
 ghost use Rattle.httparse.specs.Spans.{IsHeaderWithin, IsWithin, span_bytes, header_bytes};
 ghost use Rattle.acct_desk.specs.Request.{reach_of};
 ghost use Rattle.acct_desk.specs.Asks.{Ask as Asked, json_of, ask_of_json, ask_of_role};
 ghost use Rattle.acct_desk.specs.Asks.{ask_of_endpoint, path_of, role_of_fields, ask_of_fields};
 ghost use Rattle.acct_desk.specs.Asks.{ask_of_reach, refused, Asks, ask_of_path, ask_of_part};
-ghost use Rattle.acct_desk.specs.Asks.{ask_of_account};
+ghost use Rattle.acct_desk.specs.Asks.{ask_of_account, own_page, ask_of_own};
 ghost use Rattle.acct_desk.specs.Paths as paths;
 ghost use Rattle.acct_desk.specs.inner.AskView.{ask_view};
+ghost use Rattle.acct_desk.specs.inner.BearerView.{bearer_role};
 
 use crate::account_path::account_path;
+use crate::bearer::{Bearer, bearer_of};
 use crate::framing::{HEAD_LIMIT, Reach, front_of, reach_by_fields};
 use crate::head::{FIELD_LIMIT, head_of, values_named};
 use crate::keys::{Keys, Role};
@@ -18,7 +20,7 @@ use crate::login::{Login, decoded, login_asked};
 use crate::login_path::{login_path, part_path};
 use crate::routes::{Endpoint, method_text};
 use crate::top_up_body::{BodyError, topup_of_body};
-use acct_model::{NoMemory, Plans, TopUp};
+use acct_model::{NoMemory, Octets, Plans, TopUp};
 use httparse::spans::{EMPTY_HEADER_SPAN, HeaderSpan, RequestSpans};
 use std::alloc::Global;
 
@@ -50,8 +52,8 @@ pub(crate) enum Ask<'k> {
     Refused(Refusal),
     // A page of the key's account.
     Me(Page, &'k [u8]),
-    // A page of the account that the path names.
-    Account(Page, Vec<u8>),
+    // A page of the account that the path or a signed key names.
+    Account(Page, Octets),
     // The overdrawn accounts.
     Overruns,
     // What a login may use.
@@ -130,7 +132,7 @@ fn ask_of_spans<'k>(
         Reach::Whole(end) => {
             let path = path_of_target(spans.path.of(front));
             let endpoint = keys.endpoint_at(path);
-            let role = role_of_fields(keys, front, headers);
+            let bearer = bearer_of_fields(alloc, keys, front, headers, moment)?;
             let body = &request[spans.len..end];
             let what = What {
                 path: path.as_bytes(),
@@ -143,7 +145,7 @@ fn ask_of_spans<'k>(
                 plans,
                 endpoint,
                 spans.method.of(front),
-                role,
+                bearer,
                 what,
             )
         }
@@ -170,14 +172,22 @@ fn path_part(target: &str) -> &str
     }
 }
 
-// The role of the key in the first Desk-Key field.
-fn role_of_fields<'k>(keys: &'k Keys, front: &[u8], headers: &[HeaderSpan]) -> Option<&'k Role>
+// The bearer of the key in the first Desk-Key field.
+fn bearer_of_fields<'k>(
+    alloc: Global,
+    keys: &'k Keys,
+    front: &[u8],
+    headers: &[HeaderSpan],
+    moment: u64,
+) -> Result<Option<Bearer<'k>>, NoMemory>
     requires { All (IsHeaderWithin (length front.now)) headers.now }
-    ensures { option_copied result ≡ role_of_fields keys.now.list
-        (map (header_bytes front.now) headers.now) }
+    ensures { IfOk result (λ bearer. option_map bearer_role bearer
+        ≡ role_of_fields keys.now moment (map (header_bytes front.now) headers.now)) }
 {
-    let token = values_named(front, headers, "desk-key").first?;
-    keys.role_of(token)
+    match values_named(front, headers, "desk-key").first {
+        Some(token) => bearer_of(alloc, keys, token, moment),
+        None => Ok(None),
+    }
 }
 
 // What a request says beside its method and its key.
@@ -195,12 +205,12 @@ fn ask_of_parts<'k>(
     plans: &'k Plans,
     endpoint: Option<Endpoint>,
     method: &[u8],
-    role: Option<&'k Role>,
+    bearer: Option<Bearer<'k>>,
     what: What<'_>,
 ) -> Result<Ask<'k>, NoMemory>
     requires { what.moment < 2 ^ 53 }
-    ensures { IfOk result (λ ask. ask_view ask
-        ≡ ask_of_endpoint keys.now plans.now endpoint method.now (option_copied role.entry)
+    ensures { IfOk result (λ ask. ask_view ask ≡ ask_of_endpoint keys.now plans.now endpoint
+        method.now (option_map bearer_role bearer.entry)
         what.entry.path.now what.entry.body.now what.entry.moment) }
 {
     let Some(endpoint) = endpoint else {
@@ -209,9 +219,42 @@ fn ask_of_parts<'k>(
     if method != method_text(endpoint).as_bytes() {
         return Ok(Ask::Refused(Refusal::WrongMethod(endpoint)));
     }
-    match role {
+    match bearer {
         None => Ok(Ask::Refused(Refusal::NoKey)),
-        Some(role) => ask_of_role(alloc, keys, plans, endpoint, role, what),
+        Some(Bearer::Listed(role)) => ask_of_role(alloc, keys, plans, endpoint, role, what),
+        Some(Bearer::Signed(account)) => Ok(ask_of_signed(endpoint, account)),
+    }
+}
+
+// Returns what a request with a signed key of an account asks for.
+fn ask_of_signed<'k>(endpoint: Endpoint, account: Octets) -> Ask<'k>
+    ensures { ask_view result ≡ ask_of_own (own_page endpoint) account }
+{
+    match own_page(endpoint) {
+        Some(page) => Ask::Account(page, account),
+        None => Ask::Refused(Refusal::NotAllowed),
+    }
+}
+
+// Returns what a request with a listed key of an account asks for.
+fn ask_of_own<'k>(endpoint: Endpoint, account: &'k Octets) -> Ask<'k>
+    ensures { ask_view result ≡ ask_of_own (own_page endpoint) account.now }
+{
+    match own_page(endpoint) {
+        Some(page) => Ask::Me(page, account.as_slice()),
+        None => Ask::Refused(Refusal::NotAllowed),
+    }
+}
+
+// The page that an account's key shows at an endpoint.
+fn own_page(endpoint: Endpoint) -> Option<Page>
+    ensures { result ≡ own_page endpoint }
+{
+    match endpoint {
+        Endpoint::Balance => Some(Page::Balance),
+        Endpoint::Sessions => Some(Page::Sessions),
+        Endpoint::MyTopUps => Some(Page::TopUps),
+        _ => None,
     }
 }
 
@@ -230,18 +273,7 @@ fn ask_of_role<'k>(
         what.entry.path.now what.entry.body.now what.entry.moment) }
 {
     match (endpoint, role) {
-        (Endpoint::Balance, Role::Account(account)) => Ok(Ask::Me(
-            Page::Balance,
-            account.as_slice(),
-        )),
-        (Endpoint::Sessions, Role::Account(account)) => Ok(Ask::Me(
-            Page::Sessions,
-            account.as_slice(),
-        )),
-        (Endpoint::MyTopUps, Role::Account(account)) => Ok(Ask::Me(
-            Page::TopUps,
-            account.as_slice(),
-        )),
+        (_, Role::Account(account)) => Ok(ask_of_own(endpoint, account)),
         (Endpoint::Overruns, Role::Cashier | Role::Clerk) => Ok(Ask::Overruns),
         (Endpoint::TopUps, Role::Cashier | Role::Clerk) => {
             ask_of_post(alloc, what.body, what.moment)
@@ -298,7 +330,7 @@ fn ask_of_account<'k>(alloc: Global, path: &[u8]) -> Result<Ask<'k>, NoMemory>
     match account_path(path) {
         None => Ok(Ask::Refused(Refusal::NoPath)),
         Some((page, account)) => match decoded(alloc, account) {
-            Ok(account) => Ok(Ask::Account(page, account)),
+            Ok(octets) => Ok(Ask::Account(page, Octets { octets })),
             Err(_) => Err(NoMemory),
         },
     }

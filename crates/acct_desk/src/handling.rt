@@ -52,7 +52,7 @@ pub fn handle<B: Book>(
     match ask {
         Ask::Refused(refusal) => refuse(alloc, refusal),
         Ask::Me(page, account) => tell_page(alloc, plans, book, page, account),
-        Ask::Account(page, account) => tell_page(alloc, plans, book, page, &account),
+        Ask::Account(page, account) => tell_page(alloc, plans, book, page, account.as_slice()),
         Ask::Overruns => tell_overruns(alloc, book),
         Ask::Login(login) => tell_login(alloc, book, &login),
         Ask::Overdrawn(after) => tell_open_sessions(alloc, book, after),

@@ -1,5 +1,6 @@
 //! The keys of the desk: who may ask what.
 ghost use Rattle.std.specs.Prelude.{◌≡◌, ◌++◌, [], ◌∷◌, None, false, IfOk, IfErr, OnOk, OnErr};
+ghost use Rattle.std.specs.Prelude.{option_map, string_bytes};
 ghost use Rattle.std.specs.List.{list_all, list_any};
 ghost use Rattle.std.specs.Option.{option_copied, option_or};
 ghost use Rattle.acct_model.specs.Faults.{fault_or};
@@ -7,9 +8,11 @@ ghost use Rattle.acct_desk.specs.Keys.{is_token_octet, is_token_text, has_token,
 ghost use Rattle.acct_desk.specs.Keys.{lets_logins, serves_logins, lets_accounts, shows_accounts};
 ghost use Rattle.acct_desk.specs.KeyFaults.{key_fault, keys_fault, IsKeysError, ArePlaces};
 ghost use Rattle.acct_desk.specs.Routes.{endpoint_of, login_endpoint, account_endpoint};
+ghost use Rattle.acct_desk.specs.SignedKeys.{made_key};
 
 use crate::account_path::account_path;
 use crate::routes::{Endpoint, endpoint_at, front_endpoint, router};
+use crate::signed_key::{SignedKey, Withdrawn};
 use acct_model::{Octets, StampSecrets, Text};
 use matchit::{InsertError, Router};
 use std::alloc::{AllocError, Global};
@@ -61,13 +64,18 @@ impl Drop for DeskKey {
 
 /// What a desk signs with.
 pub struct Signing {
-    /// The secrets that sign stamps.
+    /// The secrets that sign stamps and keys.
     pub secrets: StampSecrets,
+    /// The signed keys that are ended before their last second.
+    pub withdrawn: Vec<Withdrawn>,
 }
 
 impl Drop for Signing {
     fn drop(self) {
-        let Signing { secrets: _ } = self;
+        let Signing {
+            secrets: _,
+            withdrawn: _,
+        } = self;
     }
 }
 
@@ -211,6 +219,21 @@ impl Keys {
             for_logins,
             signing,
             router,
+        }
+    }
+
+    /// The value of a signed key that the desk takes, if it signs.
+    ///
+    /// # Errors
+    ///
+    /// Only if an allocation fails.
+    pub fn signed_key(&self, alloc: Global, key: &SignedKey) -> Result<Option<String>, AllocError>
+        ensures { IfOk result (λ value.
+            option_map string_bytes value ≡ made_key self.now.signing key.now) }
+    {
+        match &self.signing {
+            Some(signing) => Ok(Some(key.value(alloc, &signing.secrets.secret)?)),
+            None => Ok(None),
         }
     }
 

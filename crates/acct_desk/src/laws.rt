@@ -3,6 +3,8 @@ ghost use Rattle.acct_desk.specs.Laws.{OneThingIsAsked, MeFromPart};
 ghost use Rattle.acct_desk.specs.LoginLaws.{PaidOctetsCostTheBalance, LoginKeepsBalance};
 ghost use Rattle.acct_desk.specs.OverdrawnLaws.{PartsAreWhole};
 ghost use Rattle.acct_desk.specs.LoginLaws.{IdsAreRead, ToldStampsAreRead};
+ghost use Rattle.acct_desk.specs.SignedKeyLaws.{SignedKeysAreRead, SignedKeysDiffer};
+ghost use Rattle.acct_desk.specs.SignedKeyLaws.{SignedKeysAreInForce, SignedKeysAreApart};
 
 /// No request asks a desk for two things.
 pub fn one_thing_is_asked()
@@ -45,4 +47,27 @@ pub fn ids_are_read()
 /// The stamp that a login is told is read by the site as its plan, its login and its account.
 pub fn told_stamps_are_read()
     ensures { ToldStampsAreRead }
+{}
+
+/// A value is read as a signed key if, and only if, a secret of the site made it, and as what it
+/// was made of.
+pub fn signed_keys_are_read()
+    ensures { SignedKeysAreRead }
+{}
+
+/// Signed keys of different accounts or ends differ, whoever made them.
+pub fn signed_keys_differ()
+    ensures { SignedKeysDiffer }
+{}
+
+/// A value shows the pages of an account at a moment if, and only if, a secret of the site made it
+/// of the account and a last second that is not past, and that no withdrawal of the account
+/// reaches.
+pub fn signed_keys_are_in_force()
+    ensures { SignedKeysAreInForce }
+{}
+
+/// A signed key is no stamp and no token of the configuration, whoever made it.
+pub fn signed_keys_are_apart()
+    ensures { SignedKeysAreApart }
 {}

@@ -75,7 +75,7 @@ fn desk<B: Book + Drop>(alloc: Global, book: B) -> Result<Desk<B>, Fail> {
 }
 
 // A book in which `al` has a session and a voucher.
-fn book(alloc: Global) -> Result<MemBook, Fail> {
+pub(crate) fn book(alloc: Global) -> Result<MemBook, Fail> {
     let (mut book, plans) = (MemBook::new(alloc), plans(alloc)?);
     record(
         alloc,
@@ -93,7 +93,7 @@ fn book(alloc: Global) -> Result<MemBook, Fail> {
     Ok(book)
 }
 
-fn request(alloc: Global, target: &str, key: &str) -> Result<Vec<u8>, Fail> {
+pub(crate) fn request(alloc: Global, target: &str, key: &str) -> Result<Vec<u8>, Fail> {
     let text = format!(in alloc; "GET {target} HTTP/1.1\r\nDesk-Key: {key}\r\n\r\n")?;
     Ok(text.into_bytes())
 }

@@ -38,6 +38,7 @@ pub(crate) fn signing(alloc: Global) -> Result<Signing, Fail> {
     match StampSecret::new(octets) {
         Some(secret) => Ok(Signing {
             secrets: StampSecrets { secret, old: None },
+            withdrawn: Vec::new(alloc),
         }),
         None => Err(Fail::from("no secret")),
     }

@@ -26,4 +26,6 @@ mod requests;
 #[cfg(test)]
 mod sample_desk;
 #[cfg(test)]
+mod signed_keys;
+#[cfg(test)]
 mod texts;

@@ -7,7 +7,7 @@ use std::alloc::Global;
 use std::test::Fail;
 
 // A text and what its first fault is shown as.
-type Refused = (&'static str, &'static str);
+pub(crate) type Refused = (&'static str, &'static str);
 
 static REFUSED: [Refused; 50] = [
     ("client = [", "NotToml in Top 0"),
@@ -282,7 +282,7 @@ static REFUSED_KEYS: [Refused; 27] = [
     ),
 ];
 
-const DEFAULT: &str = "plan = [{class='default', block=1000000, unit=5}]\n";
+pub(crate) const DEFAULT: &str = "plan = [{class='default', block=1000000, unit=5}]\n";
 
 // Whether the first fault of a text is shown so.
 fn is_shown(alloc: Global, text: &str, says: &str) -> Result<bool, Fail> {
@@ -300,7 +300,7 @@ fn is_refused(alloc: Global, front: &str, refused: Refused) -> Result<bool, Fail
 }
 
 // Fails at the first text that has another fault.
-fn expect_faults(alloc: Global, front: &str, texts: &[Refused]) -> Result<(), Fail> {
+pub(crate) fn expect_faults(alloc: Global, front: &str, texts: &[Refused]) -> Result<(), Fail> {
     for i in 0..texts.len() {
         if !is_refused(alloc, front, texts[i])? {
             return Err(Fail::from(("row", i)));
@@ -318,7 +318,7 @@ fn first_faults_are_told(rt: HostRuntime) -> Result<(), Fail> {
 
 // Arrays of so many numbers, and their first fault. Those of too many are refused as a whole, and
 // the others at their first element.
-static ARRAYS: [(&str, usize, &str); 6] = [
+static ARRAYS: [(&str, usize, &str); 8] = [
     ("client", 1024, "BadShape in Client 0"),
     ("client", 1025, "BadShape in Top 0"),
     ("plan", 256, "BadShape in Plan 0"),
@@ -331,6 +331,16 @@ static ARRAYS: [(&str, usize, &str); 6] = [
     (
         "plan = [{class='default', block=1000000, unit=5}]\nkey",
         4097,
+        "BadShape in Top 0",
+    ),
+    (
+        "plan = [{class='default', block=1000000, unit=5}]\nwithdrawn",
+        1024,
+        "BadShape in Withdrawn 0",
+    ),
+    (
+        "plan = [{class='default', block=1000000, unit=5}]\nwithdrawn",
+        1025,
         "BadShape in Top 0",
     ),
 ];

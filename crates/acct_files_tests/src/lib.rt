@@ -12,4 +12,6 @@ mod limits;
 #[cfg(test)]
 mod refused_memory;
 #[cfg(test)]
+mod signed_keys;
+#[cfg(test)]
 mod sizes;

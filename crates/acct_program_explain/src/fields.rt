@@ -50,6 +50,12 @@ static KEY: Kind = Kind {
     before: "[[plan]]\nclass = 'default'\nblock = 1\nunit = 0\n[[key]]\n",
 };
 
+static WITHDRAWN: Kind = Kind {
+    table: "withdrawn",
+    known: "account and until",
+    before: "[[plan]]\nclass = 'default'\nblock = 1\nunit = 0\n[[withdrawn]]\n",
+};
+
 static CLIENT_FIELDS: [Field; 6] = [
     Field {
         name: "name",
@@ -164,6 +170,23 @@ static KEY_FIELDS: [Field; 5] = [
     },
 ];
 
+static WITHDRAWN_FIELDS: [Field; 2] = [
+    Field {
+        name: "account",
+        rule: "1 to 253 octets in quotes",
+        is_required: true,
+        is_unique: false,
+        others: "until = 0\n",
+    },
+    Field {
+        name: "until",
+        rule: "the last second, counted since 1970, as a whole number without quotes",
+        is_required: true,
+        is_unique: false,
+        others: "account = 'a'\n",
+    },
+];
+
 // The kind of the tables of an array, with their names; none for the text as a whole.
 pub(crate) fn kind_of(table: ConfigTable) -> Option<(Kind, &'static [Field])> {
     match table {
@@ -171,6 +194,7 @@ pub(crate) fn kind_of(table: ConfigTable) -> Option<(Kind, &'static [Field])> {
         ConfigTable::Client => Some((CLIENT, &CLIENT_FIELDS)),
         ConfigTable::Plan => Some((PLAN, &PLAN_FIELDS)),
         ConfigTable::Key => Some((KEY, &KEY_FIELDS)),
+        ConfigTable::Withdrawn => Some((WITHDRAWN, &WITHDRAWN_FIELDS)),
     }
 }
 

@@ -125,7 +125,7 @@ fn write_twice<W: fmt::Write>(
 fn write_unknown_at_top<W: fmt::Write>(f: &mut fmt::Formatter<W>, name: &str) -> fmt::Result {
     write!(
         f,
-        "{name:?} is no name: there are [[client]], [[plan]], [[key]] and [stamp]"
+        "{name:?} is no name: there are [[client]], [[plan]], [[key]], [stamp] and [[withdrawn]]"
     )
 }
 

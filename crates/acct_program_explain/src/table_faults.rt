@@ -7,7 +7,7 @@ use std::alloc::{AllocError, Global};
 use toml::{Table, Value};
 
 // The names of the arrays.
-const ARRAYS: [&str; 3] = ["client", "plan", "key"];
+const ARRAYS: [&str; 4] = ["client", "plan", "key", "withdrawn"];
 // The name of the table of the secrets that sign stamps.
 const STAMP: &str = "stamp";
 // The names of a key that say who bears it.
@@ -40,7 +40,7 @@ fn top_shape(document: &Table) -> What<'_> {
             return What::NoArray { name };
         }
     }
-    What::Said("1024 [[client]], 256 [[plan]] and 4096 [[key]] are the most")
+    What::Said("1024 [[client]], 256 [[plan]], 4096 [[key]] and 1024 [[withdrawn]] are the most")
 }
 
 // What is wrong with the shape of the stamp's table.

@@ -7,7 +7,7 @@ use std::test::Fail;
 // A text, and what is printed for its first fault.
 type Wrong = (&'static str, &'static str);
 
-static WRONG: [Wrong; 32] = [
+static WRONG: [Wrong; 35] = [
     (
         "[[client]]\nname = 'a\n",
         "explained: f line 2: this is not TOML: invalid string\n",
@@ -15,8 +15,8 @@ static WRONG: [Wrong; 32] = [
     ("", "explained: f: no [[plan]] has the class default\n"),
     (
         "\"na\\ns\" = 1",
-        "explained: f: \"na\\ns\" is no name: there are [[client]], [[plan]], [[key]] \
-         and [stamp]\n",
+        "explained: f: \"na\\ns\" is no name: there are [[client]], [[plan]], [[key]], [stamp] \
+         and [[withdrawn]]\n",
     ),
     (
         "[client]\nname = 'a'\n",
@@ -144,6 +144,21 @@ static WRONG: [Wrong; 32] = [
         "[[plan]]\nclass = 'default'\nblock = 1\nunit = 0\n[[key]]\ntoken = 'abcdefghijklmnop'\n\
          account = 'al'\naccounts = true\n",
         "explained: f line 5: this [[key]] has accounts without cashier\n",
+    ),
+    (
+        "[[plan]]\nclass = 'default'\nblock = 1\nunit = 0\n[[withdrawn]]\naccount = ''\n\
+         until = 1\n",
+        "explained: f line 5: account of this [[withdrawn]] is 1 to 253 octets in quotes\n",
+    ),
+    (
+        "[[plan]]\nclass = 'default'\nblock = 1\nunit = 0\n[[withdrawn]]\naccount = 'a'\n\
+         until = -1\n",
+        "explained: f line 5: until of this [[withdrawn]] is the last second, counted since 1970, \
+         as a whole number without quotes\n",
+    ),
+    (
+        "[[plan]]\nclass = 'default'\nblock = 1\nunit = 0\n[[withdrawn]]\naccount = 'a'\n",
+        "explained: f line 5: this [[withdrawn]] has no until\n",
     ),
     (
         "[stamp]\nsecret = '0123456789abcde'\n[[plan]]\nclass = 'default'\nblock = 1\nunit = 0\n",

@@ -1,10 +1,11 @@
 -- The first fault of a text, from the part that has it.
 use Rattle.std.proofs.Common.{◌≡◌, ℕ, List, Some, true, inl, inr, subst, sym}
-use Rattle.std.specs.Prelude.{◌⊎◌, Result, Ok, Err, IfErr, IsErrAnd}
+use Rattle.std.specs.Prelude.{◌⊎◌, Option, Result, Ok, Err, IfErr, IsErrAnd}
 use Rattle.toml.specs.Data.{Members}
 use Rattle.toml.specs.Parse.{parse_document}
 use Rattle.acct_model.specs.declared.plan.Plan.{Plan}
 use Rattle.acct_desk.specs.Keys.{KeysFacts}
+use Rattle.acct_wire.specs.declared.hearing.Stamping.{Stamping}
 use Rattle.acct_wire.specs.Clients.{ClientsFacts}
 use Rattle.acct_site_config.specs.declared.config_error.ConfigError.{ConfigError}
 use Rattle.acct_site_config.specs.declared.config_error.ConfigKind.TheVariants.{Memory}
@@ -12,7 +13,8 @@ use Rattle.acct_site_config.specs.ClientTables.{AreClientTables, FirstClientRefu
 use Rattle.acct_site_config.specs.PlanTables.{ArePlanTables, has_default, FirstPlanRefused}
 use Rattle.acct_site_config.specs.PlanTables.{LacksDefault}
 use Rattle.acct_site_config.specs.KeyTables.{AreKeyTables, FirstKeyRefused}
-use Rattle.acct_site_config.specs.StampTables.{IsStampFault}
+use Rattle.acct_site_config.specs.StampTables.{IsStamping, IsStampFault}
+use Rattle.acct_site_config.specs.WithdrawnTables.{FirstWithdrawnRefused}
 use Rattle.acct_site_config.specs.Config.{Arrays, arrays_in, IsConfigError, IsTableFault}
 use Rattle.acct_site_config.specs.Config.{IsLaterFault, IsLastFault}
 
@@ -64,7 +66,15 @@ pub of_stamp : (arrays : Arrays) (keys : KeysFacts) (error : ConfigError)
     → AreKeyTables arrays.2 keys → (error.kind ≡ Memory) ⊎ IsStampFault arrays.3 arrays.0 error
     → (error.kind ≡ Memory) ⊎ IsLastFault arrays error
 of_stamp arrays keys error spelled (inl memory) = inl memory
-of_stamp arrays keys error spelled (inr fault) = inr (inr (keys, spelled, fault))
+of_stamp arrays keys error spelled (inr fault) = inr (inr (keys, spelled, inl fault))
+
+pub of_withdrawn : (arrays : Arrays) (keys : KeysFacts) (stamping : Option Stamping)
+    (error : ConfigError) → AreKeyTables arrays.2 keys → IsStamping arrays.3 arrays.0 stamping
+    → (error.kind ≡ Memory) ⊎ FirstWithdrawnRefused arrays.4 error
+    → (error.kind ≡ Memory) ⊎ IsLastFault arrays error
+of_withdrawn arrays keys stamping error spelled heard (inl memory) = inl memory
+of_withdrawn arrays keys stamping error spelled heard (inr fault) =
+    inr (inr (keys, spelled, inr (stamping, heard, fault)))
 
 -- an error that is handed on
 pub handed_on : {T : Type 0} (result : Result T ConfigError) (error : ConfigError)

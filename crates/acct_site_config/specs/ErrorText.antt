@@ -19,12 +19,14 @@ kind_text kind.TwiceKeyed = codes "TwiceKeyed"
 kind_text kind.Memory = codes "Memory"
 kind_text kind.BadStamp = codes "BadStamp"
 kind_text kind.NoStamp = codes "NoStamp"
+kind_text kind.BadWithdrawn = codes "BadWithdrawn"
 
 abbrev pub table_text : ConfigTable → List ℕ
 table_text table.Top = codes "Top"
 table_text table.Client = codes "Client"
 table_text table.Plan = codes "Plan"
 table_text table.Key = codes "Key"
+table_text table.Withdrawn = codes "Withdrawn"
 
 abbrev pub error_text : ConfigError → List ℕ
 error_text error =

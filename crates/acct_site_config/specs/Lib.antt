@@ -4,6 +4,7 @@ pub mod ClientTables
 pub mod PlanTables
 pub mod KeyTables
 pub mod StampTables
+pub mod WithdrawnTables
 pub mod Config
 pub mod ErrorText
 pub mod inner

@@ -8,6 +8,7 @@ use Rattle.acct_model.specs.Secrets.{is_secret}
 use Rattle.acct_wire.specs.declared.hearing.StampedClient.{StampedClient}
 use Rattle.acct_wire.specs.declared.hearing.Stamping.{Stamping}
 use Rattle.acct_desk.specs.declared.keys.Signing.{Signing}
+use Rattle.acct_desk.specs.declared.signed_key.Withdrawn.{Withdrawn}
 use Rattle.acct_site_config.specs.declared.config_error.ConfigKind.TheVariants.{BadStamp, NoStamp}
 use Rattle.acct_site_config.specs.declared.config_error.ConfigTable.TheVariants as place
 use Rattle.acct_site_config.specs.declared.config_error.ConfigError.{ConfigError}
@@ -82,11 +83,12 @@ IsStamping (Some texts) tables None = ⊥
 IsStamping (Some texts) tables (Some stamping) =
     SaysSecrets texts stamping.secrets × (stamping.clients.items ≡ filter_map stamped_in tables)
 
--- What the desk signs with: nothing without the stamp's table.
-abbrev pub IsSigning : Option StampTexts → Option Signing → Type 0
-IsSigning None signing = signing ≡ None
-IsSigning (Some texts) None = ⊥
-IsSigning (Some texts) (Some signing) = SaysSecrets texts signing.secrets
+-- What the desk signs with, and which keys are withdrawn: nothing without the stamp's table.
+abbrev pub IsSigning : Option StampTexts → List Withdrawn → Option Signing → Type 0
+IsSigning None withdrawn signing = signing ≡ None
+IsSigning (Some texts) withdrawn None = ⊥
+IsSigning (Some texts) withdrawn (Some signing) =
+    SaysSecrets texts signing.secrets × (signing.withdrawn.items ≡ withdrawn)
 
 -- The secrets are out of their rule; or without them a client is stamped, and this is the first.
 abbrev pub IsStampFault : Option StampTexts → List Data → ConfigError → Type 0

@@ -74,6 +74,17 @@ list_at_most limit (Some list) = if nat_le (length list) limit then Some list el
 abbrev pub array_at : List ℕ → ℕ → Members → Option (List Data)
 array_at name limit top = list_at_most limit (elements_at (get_member name top))
 
+module _ {A B C D E : Type 0} where
+  -- five values, if each is there
+  abbrev pub five : Option A → Option B → Option C → Option D → Option E
+      → Option (A × B × C × D × E)
+  five (Some a) (Some b) (Some c) (Some d) (Some e) = Some (a, b, c, d, e)
+  five None _ _ _ _ = None
+  five (Some a) None _ _ _ = None
+  five (Some a) (Some b) None _ _ = None
+  five (Some a) (Some b) (Some c) None _ = None
+  five (Some a) (Some b) (Some c) (Some d) None = None
+
 module _ {A B C D : Type 0} where
   -- four values, if each is there
   abbrev pub four : Option A → Option B → Option C → Option D → Option (A × B × C × D)

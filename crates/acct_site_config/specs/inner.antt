@@ -3,3 +3,4 @@ pub mod ClientTables
 pub mod KeyTables
 pub mod PlanTables
 pub mod StampTables
+pub mod WithdrawnTables

@@ -34,6 +34,8 @@ pub enum ConfigKind {
     BadStamp = 11,
     /// The logins of a client are stamped, and there is no stamp.
     NoStamp = 12,
+    /// A withdrawn account or its last second breaks its rule.
+    BadWithdrawn = 13,
 }
 
 impl From<AllocError> for ConfigKind {
@@ -75,6 +77,7 @@ impl fmt::Display for ConfigKind {
             ConfigKind::Memory => "Memory",
             ConfigKind::BadStamp => "BadStamp",
             ConfigKind::NoStamp => "NoStamp",
+            ConfigKind::BadWithdrawn => "BadWithdrawn",
         })
     }
 }
@@ -90,6 +93,8 @@ pub enum ConfigTable {
     Plan,
     /// A table of the array `key`.
     Key,
+    /// A table of the array `withdrawn`.
+    Withdrawn,
 }
 
 impl fmt::Display for ConfigTable {
@@ -101,6 +106,7 @@ impl fmt::Display for ConfigTable {
             ConfigTable::Client => "Client",
             ConfigTable::Plan => "Plan",
             ConfigTable::Key => "Key",
+            ConfigTable::Withdrawn => "Withdrawn",
         })
     }
 }

@@ -14,6 +14,7 @@ use crate::key_tables::keys_of;
 use crate::plan_tables::plans_of;
 use crate::stamp_tables::{StampTexts, signing_of, stamp_at, stamping_of};
 use crate::tables::{array_at, only};
+use crate::withdrawn_tables::withdrawn_of;
 use acct_site::Config;
 use std::alloc::Global;
 use toml::{Table, Value};
@@ -24,6 +25,8 @@ const MOST_CLIENTS: usize = 1_024;
 const MOST_PLANS: usize = 256;
 /// The most keys of a site.
 const MOST_KEYS: usize = 4_096;
+/// The most withdrawn accounts of a site.
+const MOST_WITHDRAWN: usize = 1_024;
 
 /// The configuration that a text spells.
 ///
@@ -40,6 +43,7 @@ const MOST_KEYS: usize = 4_096;
 /// 3. `BadShape`, `BadPlan` and `TwicePlanned` of each plan, then `NoDefault`.
 /// 4. `BadShape`, `BadKey` and `TwiceKeyed` of each key.
 /// 5. `BadStamp`, or `NoStamp` of the first client that would need a stamp.
+/// 6. `BadShape` and `BadWithdrawn` of each withdrawn account.
 ///
 /// `Memory` may be returned instead of any other. Its table and index mean nothing.
 pub fn config_of(alloc: Global, text: &str) -> Result<Config, ConfigError>
@@ -47,14 +51,15 @@ pub fn config_of(alloc: Global, text: &str) -> Result<Config, ConfigError>
     ensures refused { IfErr result (IsConfigError text.now) }
 {
     let document = document_of(alloc, text)?;
-    let Some((tables, plans, keys, stamp)) = arrays_in(&document) else {
+    let Some((tables, plans, keys, stamp, withdrawn)) = arrays_in(&document) else {
         return Err(ConfigError::top(ConfigKind::BadShape));
     };
     let clients = clients_of(alloc, tables)?;
     let plans = plans_of(alloc, plans)?;
     let keys = keys_of(alloc, keys)?;
     let stamping = stamping_of(alloc, stamp, tables)?;
-    let signing = signing_of(alloc, stamp)?;
+    let withdrawn = withdrawn_of(alloc, withdrawn)?;
+    let signing = signing_of(alloc, stamp, withdrawn)?;
     Ok(Config {
         clients: clients.heard_by(stamping),
         plans,
@@ -76,20 +81,32 @@ fn document_of(alloc: Global, text: &str) -> Result<Table, ConfigError>
     }
 }
 
-// The elements of the arrays of the clients, of the plans and of the keys, and the texts of the
-// stamp, if there is one.
-fn arrays_in(document: &Table) -> Option<(&[Value], &[Value], &[Value], Option<StampTexts<'_>>)>
+// The elements of the arrays of the clients, of the plans and of the keys, the texts of the stamp,
+// if there is one, and the elements of the array of withdrawn accounts.
+fn arrays_in(
+    document: &Table,
+) -> Option<
+    (
+        &[Value],
+        &[Value],
+        &[Value],
+        Option<StampTexts<'_>>,
+        &[Value],
+    ),
+>
     ensures { option_map (λ a. (
       map view a.0.now,
       map view a.1.now,
       map view a.2.now,
       stamp_view a.3,
+      map view a.4.now,
     )) result ≡ spec.arrays_in (table_view document.now) }
 {
-    let document = only(document, &["client", "plan", "key", "stamp"])?;
+    let document = only(document, &["client", "plan", "key", "stamp", "withdrawn"])?;
     let clients = array_at(document, "client", MOST_CLIENTS)?;
     let plans = array_at(document, "plan", MOST_PLANS)?;
     let keys = array_at(document, "key", MOST_KEYS)?;
     let stamp = stamp_at(document)?;
-    Some((clients, plans, keys, stamp))
+    let withdrawn = array_at(document, "withdrawn", MOST_WITHDRAWN)?;
+    Some((clients, plans, keys, stamp, withdrawn))
 }

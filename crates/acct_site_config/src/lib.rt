@@ -11,6 +11,7 @@ mod key_tables;
 mod plan_tables;
 mod stamp_tables;
 mod tables;
+mod withdrawn_tables;
 
 pub use acct_site::Config;
 pub use config_error::{ConfigError, ConfigKind, ConfigTable};

@@ -120,7 +120,7 @@ fn count_named(name: &str) -> Option<Count>
 }
 
 // The number itself, if it is not below 0.
-fn natural(number: i64) -> Option<u64>
+pub(crate) fn natural(number: i64) -> Option<u64>
     ensures { MatchOption result
         ((same : ℕ) → number ≢ pos same)
         (λ same. number ≡ pos same) }

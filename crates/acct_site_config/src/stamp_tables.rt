@@ -12,7 +12,7 @@ ghost use Rattle.acct_site_config.specs.declared.config_error.ConfigKind.TheVari
 use crate::client_tables::values_of;
 use crate::config_error::{ConfigError, ConfigKind, ConfigTable};
 use crate::tables::{table_of, text_at, text_if};
-use acct_desk::Signing;
+use acct_desk::{Signing, Withdrawn};
 use acct_model::{Octets, StampSecret, StampSecrets, Text};
 use acct_wire::{StampedClient, Stamping};
 use std::alloc::{AllocError, Global};
@@ -95,12 +95,13 @@ fn stamping_by(
     }
 }
 
-// What the desk signs with.
+// What the desk signs with, and which keys are withdrawn.
 pub(crate) fn signing_of(
     alloc: Global,
     stamp: Option<StampTexts<'_>>,
+    withdrawn: Vec<Withdrawn>,
 ) -> Result<Option<Signing>, ConfigError>
-    ensures spelled { IfOk result (spec.IsSigning (stamp_view stamp.entry)) }
+    ensures spelled { IfOk result (spec.IsSigning (stamp_view stamp.entry) withdrawn.items) }
     ensures refused { (tables : List Data) → IfErr result (λ error. (error.kind ≡ kind.Memory)
         ⊎ spec.IsStampFault (stamp_view stamp.entry) tables error) }
 {
@@ -108,7 +109,7 @@ pub(crate) fn signing_of(
         return Ok(None);
     };
     match secrets_of(alloc, texts) {
-        Ok(Some(secrets)) => Ok(Some(Signing { secrets })),
+        Ok(Some(secrets)) => Ok(Some(Signing { secrets, withdrawn })),
         Ok(None) => Err(ConfigError::top(ConfigKind::BadStamp)),
         Err(_) => Err(ConfigError::top(ConfigKind::Memory)),
     }

@@ -9,7 +9,7 @@ use Rattle.acct_desk.specs.inner.LoginView.{login_view}
 abbrev pub ask_view : code.Ask → Ask
 ask_view (Refused refusal) = refused refusal
 ask_view (Me page account) = me page account.now
-ask_view (Account page account) = me page account.items
+ask_view (Account page account) = me page account
 ask_view Overruns = overruns
 ask_view (Login asked) = look (login (login_view asked))
 ask_view (Overdrawn after) = look (overdrawn (option_map (λ a. a.items) after))
