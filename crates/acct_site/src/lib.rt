@@ -1,6 +1,6 @@
 //! What a site is: its clients, its plans and its keys.
 //!
-//! The sample site is that of `etc/radacctd.toml`: one client, two plans and three keys. `feed`
+//! The sample site is that of `debian/radacctd.toml`: one client, two plans and three keys. `feed`
 //! answers for it if no configuration is given, and the tests of all layers use it.
 #![tactic(auto)]
 
