@@ -1,4 +1,4 @@
-"""The service in a container: what the tests of units and package ask of it, and INSTALL's page."""
+"""The service in a container: what the tests of units and package ask of it, and commands of pages."""
 
 import os
 import re
@@ -8,7 +8,6 @@ import page_steps
 from served import CASHIER, GUEST, ROOT, SECRET, check, report
 
 TOOLS = {**machine.TOOLS, "radclient": "freeradius-utils", "curl": "curl"}
-PAGE = os.path.join(ROOT, "docs", "INSTALL.md")
 CONFIG, BOOK = "/etc/radacctd.toml", "/var/lib/radacctd/book"
 DEFAULTS = "/etc/default/radacctd"
 BALANCES = "/var/lib/radacctd-balances/balances.csv"
@@ -76,10 +75,10 @@ def put_config(site, text):
     site.box.must(f"chgrp radacctd {CONFIG}")
 
 
-def commands(title):
-    """The commands of a section: those of its steps, those between them, and those in a line."""
-    found = re.findall(r"(?m)^(?: {4,7}(?! )(\S.*)|\d\. `(.*)`)$", page_steps.section(PAGE, title))
-    return [one or other for one, other in found]
+def commands(page, title):
+    """The commands of a section of a page: those of its steps, and those between them."""
+    text = page_steps.section(os.path.join(ROOT, page), title)
+    return re.findall(r"(?m)^ {4,7}(?! )(\S.*)$", text)
 
 
 def typed(box, command):
@@ -87,12 +86,10 @@ def typed(box, command):
     check(f"{command[:70]}", (status, said if status else ""), (0, ""))
 
 
-def first_start(site, config, before=None):
-    """"The first start" of the page, up to a command. The configuration takes the sample's place."""
-    for command in commands("The first start"):
-        if command == before:
-            return
-        if not command.startswith("journalctl"):
-            typed(site.box, command)
-        if command.startswith("install -m 640"):
-            put_config(site, config)
+def first_start(site, config, is_on=True):
+    """What a site needs at the least, without a set-up: its configuration, a book, and a start."""
+    put_config(site, config)
+    typed(site.box, f"radacctd check --config {CONFIG} --explain")
+    typed(site.box, f"radacctd init --config {CONFIG} --db {BOOK}")
+    if is_on:
+        typed(site.box, "systemctl enable --now radacctd")

@@ -1,4 +1,4 @@
-"""The faults that `radacctl setup --check` names, as docs/FAULTS.md lists them."""
+"""The faults that `radacctl setup --check` names, as docs/reference/faults.md lists them."""
 
 import ast
 import glob

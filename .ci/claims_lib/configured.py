@@ -1,5 +1,5 @@
-"""The tables of docs/reference/settings.md: the configuration, made of its manual page, and the
-service's settings, made of their sample.
+"""The tables of docs/reference/settings.md and metrics.md: the configuration, made of its manual page,
+the service's settings, made of their sample, and its counts, made of the source that writes them.
 """
 
 import re
@@ -51,4 +51,20 @@ def settings(_checker):
             yield f"| `{name}` |{value}| {about} |"
 
 
-MAKERS = {"configuration": rows, "settings": settings}
+COUNTS = "crates/acct_program_commands/src/figures.rt"
+ONE = r'let about =\s*"([^"]*)";\s*write_\w+\(output, "(radacctd_\w+)"'
+
+
+def metrics(_checker):
+    """Each count with what the program writes of it."""
+    yield "| Name | What it is |"
+    yield "|---|---|"
+    text = text_of(COUNTS)
+    found = re.findall(r'let name = "(radacctd_\w+)";\s*let about =\s*"([^"]*)";', text)
+    found += [(name, about) for about, name in re.findall(ONE, text)]
+    found += re.findall(r"# HELP (radacctd_[a-z]\w+) ([^\\]*)", text)
+    for name, about in found:
+        yield f"| `{name}` | {about.rstrip('.')} |"
+
+
+MAKERS = {"configuration": rows, "settings": settings, "metrics": metrics}

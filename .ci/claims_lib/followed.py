@@ -12,7 +12,7 @@ from claims_lib.typed import BY_HAND, RUN
 
 COMMAND = re.compile(r"^\s*(?:systemctl|radacctd|apt|apt-get|sqlite3|nginx|freeradius)\b", re.M)
 # A path of the repository in a command: on these pages it is meant so.
-FROM_REPOSITORY = {"README": "A first run, Install", "INSTALL": "From the repository"}
+FROM_REPOSITORY = ("README",)
 OF_REPOSITORY = re.compile(r"^\s*(?:sudo )?((?:bin|interop|bench|crates|\.ci)/[\w.-]+)", re.M)
 # A secret or a key that a page shows, and those that the program and the check warn of.
 SHOWN = re.compile(r"(?:secret|token) = \"?([^\s\"]+)|Desk-Key: ([\w-]+)")

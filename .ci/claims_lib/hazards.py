@@ -13,25 +13,18 @@ KEPT = {
         "Reports are signed, not encrypted",
     ),
     "docs/CODEC.md": ("no call tests them for you",),
-    "docs/DESK.md": (
-        "Anyone who can watch the network reads keys and answers",
-        "an access server that gives one session id to two guests",
-        "the withdrawals since the copy of the night are lost",
-        "So end cards at check-out",
-    ),
-    "docs/FORWARD.md": (
+    "docs/A-LARGE-SITE.md": (
         "A report of a session that was carried forward opens it anew, and charges it again in whole",
         "as long as the clocks of the server and of FreeRADIUS were right all the while",
         "It does not notice a clock that is up to 8 days ahead",
         "If an open session that `--silent` took reports again, credit what it was charged before",
         "An old report without it is taken for one of now",
         "and sums by plan stay for ever",
+        "nothing of what was written; other octets of the sector stay",
+        "the kernel drops the rest",
+        "or the next start fails",
     ),
-    "docs/FRONTDESK.md": (
-        "Do not sell it a second time",
-        "They count in the next shift, once the book has them",
-        "It cannot be undone",
-    ),
+    "docs/CAMPUS.md": ("A report without a stamp is charged by the client's `plan`",),
     "docs/GONE.md": (
         "The book is `book` and `book-wal`",
         "those commits, for good",
@@ -43,26 +36,13 @@ KEPT = {
         "damage of the last commit in the log",
         "`init` refuses next to a log with commits",
     ),
-    "docs/INSTALL.md": (
-        "that group reads every secret and the cashiers' keys",
-        "The secrets and keys of the sample are public",
-        "never with `cp` while the server runs",
-    ),
-    "docs/SITE.md": (
-        "a restart fails",
-        "its sessions are priced by `default` until then",
-        "or the next start fails",
-        "If you run the server without the unit, write that file yourself",
-    ),
-    "docs/SIZING.md": (
-        "nothing of what was written; other octets of the sector stay",
-        "the kernel drops the rest",
-    ),
     "docs/START.md": (
         "Both files have all secrets. Remove the first one",
         "The book of a site that has sold is copied by hand",
         "It never changes a plan, a secret or a key that is there",
         "Without a certificate it makes one that browsers warn of",
+        "its sessions are priced by `default` until then",
+        "a restart fails",
     ),
     "docs/TROUBLE.md": (
         "Delete nothing in `/var/lib/radacctd`",
@@ -71,13 +51,6 @@ KEPT = {
         "that report is lost until the session's next report",
         "what it used since the last answered one is lost",
         "do not sell it again",
-    ),
-    "docs/VOUCHERS.md": (
-        "A debit that comes before is priced by the plan `default`, for ever",
-        "A name that is misspelled becomes a new account with a debt",
-        "a debit acts once only while it is in the book",
-        "Let no access server send the Class `debit`",
-        "A restart without step 3 fails",
     ),
     "docs/proofs/AUDIT.md": (
         "It needs the copy's right delay, and a clock that was not behind before",
@@ -109,7 +82,36 @@ KEPT = {
         "the server blocks",
     ),
     "docs/reference/files.md": ("Import from a file, not from a pipe that may break",),
+    "docs/reference/requests.md": (
+        "Anyone who can watch the network reads keys and answers",
+        "an access server that gives one session id to two guests",
+    ),
+    "docs/reference/settings.md": (
+        "that group reads every secret and the cashiers' keys",
+        "The secrets and keys of the sample are public",
+        "never with `cp` while the server runs",
+        "If you run the server without the unit, write that file yourself",
+    ),
+    "site/desk/README.md": (
+        "Do not sell it a second time",
+        "They count in the next shift, once the book has them",
+        "it cannot be undone",
+        "A debit that comes before its plan is priced by `default`, for ever",
+        "A name that is misspelled becomes a new account with a debt",
+        "It acts once only while it is in the book",
+        "Let no access server send the Class `debit`",
+    ),
+    "site/front/README.md": (
+        "MikroTik for a second only",
+        "Somebody who has seen a stamp can charge that account from any access server",
+    ),
+    "site/guests/README.md": ("So end cards at check-out",),
     "site/monitor/README.md": ("each report that was set aside is money that nobody was charged",),
+    "site/pair/README.md": (
+        "With a lost disk goes what that machine had answered and not yet passed on",
+        "What one book refuses lies in that machine's `aside`",
+    ),
+    "site/vouchers/README.md": ("the withdrawals since the copy of the night are lost",),
 }
 
 

@@ -23,14 +23,14 @@ def commands(_checker):
 
 # Where each command of radacctl is explained.
 EXPLAINED = {
-    "setup": "[START](START.md), [FAULTS](FAULTS.md)",
-    "sell": "[VOUCHERS](VOUCHERS.md#credit-a-file-of-vouchers)",
-    "voucher": "[DESK](DESK.md#printed-vouchers)",
-    "person": "[DESK](DESK.md#put-a-proxy-in-front)",
-    **dict.fromkeys(("minute", "night"), "[DESK](DESK.md#what-sells)"),
-    **dict.fromkeys(("sales", "balance", "show", "who"), "[DESK](DESK.md#who-sold-what)"),
+    "setup": "[START](START.md), [set-up](../site/setup/README.md)",
+    "sell": "[desk](../site/desk/README.md#credit-a-file)",
+    "voucher": "[vouchers](../site/vouchers/README.md)",
+    **dict.fromkeys(("person", "minute", "night"), "[core](../site/core/README.md)"),
+    **dict.fromkeys(("sales", "balance"), "[desk](../site/desk/README.md#who-sold-what)"),
+    **dict.fromkeys(("show", "who"), "[operator](../site/operator/README.md)"),
     **dict.fromkeys(("package", "code"), "[packages](../site/packages/README.md)"),
-    "allow": "[VOUCHERS](VOUCHERS.md#allowances)",
+    "allow": "[desk](../site/desk/README.md#allowances)",
     **dict.fromkeys(("copy", "restore"), "[copies](../site/copies/README.md)"),
 }
 

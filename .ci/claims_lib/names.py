@@ -15,7 +15,7 @@ TOP = ("README.md", "CHANGELOG.md")
 OTHERS = {
     "accounting_close_on_timeout", "accounting_send_class", "fuser", "ltnp", "lunp", "sport",
     "cron", "its_name", "sqlite_stat1", "LimitAS", "LimitDATA", "LimitFSIZE", "MemoryMax",
-    "--vacuum-size", "samefile", "HEX",
+    "--vacuum-size", "samefile", "HEX", "--standalone", "--pre-hook", "--post-hook",
 }
 WORD = r"(?<![\w.-])--[a-z][a-z-]+|[A-Za-z_]\w{2,}"
 PLACES = r"(?:\.ci|bench|bin|crates|debian|docs|interop|man|site|acct_\w+)"

@@ -2,24 +2,23 @@
 person, and why. docs/proofs/FIGURES.md has the table.
 """
 
-# The scripts that run a page's commands, by its name.
+# The scripts that run a page's commands, by its path without `.md`.
 RUN = {
-    "INSTALL": "interop/package",
-    "START": "interop/start",
+    "docs/START": "interop/start",
+    "site/copies/README": "interop/gone",
+    "site/setup/README": "interop/package",
 }
 # Pages whose commands a person types, and why no script does.
 BY_HAND = {
-    "DESK": "interop/start and site/desk/live.py use what it explains",
-    "ACCESS-SERVERS": "each setting is of another maker's device: interop/access-servers",
-    "FORWARD": "interop/forward does the same over its own books",
-    "SITE": "interop/systemd types the steps of a change, and no script those of a plan",
-    "FAULTS": "site/setup/live.py breaks a site in each way of the page",
-    "GONE": "each way needs damage of its own; interop/flips and interop/telling make some of it",
-    "FRONTDESK": "a clerk's page: no command",
     "README": "bin/try and bin/build run it",
-    "SIZING": "it changes the kernel's settings",
-    "TROUBLE": "each symptom is another; crates/acct_program_tests makes what is explained",
-    "VOUCHERS": "site/desk/live.py gives its commands; interop/queries runs that of a month",
+    "docs/A-LARGE-SITE": "interop/forward does the same over its own books, interop/systemd types "
+                         "the steps of a change; the kernel's settings nobody does",
+    "docs/ACCESS-SERVERS": "each setting is of another maker's device: interop/access-servers",
+    "docs/CAMPUS": "site/front/test_campus.py makes such a FreeRADIUS",
+    "docs/GONE": "each way needs damage of its own; interop/flips and interop/telling make some of it",
+    "docs/TROUBLE": "each symptom is another; crates/acct_program_tests makes what is explained",
+    "site/desk/README": "site/desk/live.py gives its commands; interop/queries runs that of a month",
+    "site/monitor/README": "site/monitor/live.py has promtool, and no machine of Prometheus",
 }
 
 

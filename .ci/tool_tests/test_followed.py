@@ -16,10 +16,9 @@ import service
 
 # A page, a part of it, all of its steps, and those with commands that a script types.
 STEPS = (
-    ("SITE", "Add a plan", 4, {1, 2, 3, 4}),
-    ("FORWARD", "Run it", 6, {1, 2, 3, 4, 5, 6}),
-    ("FORWARD", "Late reports", 3, {2}),
-    ("FORWARD", "Two books of the same reports", 4, {3}),
+    ("A-LARGE-SITE", "Run it", 6, {1, 2, 3, 4, 5, 6}),
+    ("A-LARGE-SITE", "Late reports", 3, {2}),
+    ("A-LARGE-SITE", "Two books of the same reports", 4, {3}),
     ("../site/copies/README", "Restore the site", 5, {1, 2, 3}),
 )
 
@@ -42,26 +41,22 @@ class Followed(unittest.TestCase):
                 self.assertEqual(sorted(found), list(range(1, count + 1)))
                 self.assertEqual(typed - {it for it in found if found[it]}, set())
 
-    def test_site(self):
-        part = page_steps.section(os.path.join(ROOT, "docs", "SITE.md"),
+    def test_changed(self):
+        part = page_steps.section(os.path.join(ROOT, "docs", "A-LARGE-SITE.md"),
                                  "Change clients and keys while the server runs")
         lines = re.findall(r"(?m)^ {4}(\S.*)$", part)
         self.assertEqual(first_words(lines), ["cd", "cp", "editor", "radacctd", "mv", "journalctl"])
 
-    def test_install(self):
-        start = service.commands("The first start")
-        self.assertEqual(first_words(start)[:3], ["install", "radacctd", "radacctd"])
-        self.assertIn("systemctl enable --now radacctd", start)
-        for title, count in (("Addresses and ports", 2), ("Back up and restore", 4)):
-            self.assertEqual(len(service.commands(title)), count, title)
-        self.assertEqual(first_words(service.commands("Removal")), [
+    def test_installed(self):
+        self.assertEqual(len(service.commands("docs/reference/settings.md", "The service")), 2)
+        self.assertEqual(first_words(service.commands("site/setup/README.md", "Removal")), [
             "systemctl", "rm", "systemctl", "rm", "userdel", "userdel", "groupdel"])
 
     def test_start(self):
         text = text_of("START")
-        text = text[text.index("## A hotel") : text.index("## A second machine")]
+        text = text[text.index("## A hotel") : text.index("## Change the site")]
         lines = re.findall(r"(?m)^ {7}(\S.*)$", text)
-        self.assertEqual(first_words(lines)[:2], ["apt", "radacctl"])
+        self.assertEqual(first_words(lines)[:3], ["apt", "apt", "radacctl"])
         self.assertEqual(lines[-1], "radacctl setup --check")
 
 

@@ -38,7 +38,7 @@ def looked_at(make_config, wanted, steps_of, tries):
     try:
         config = make_config()
     except Failed as why:
-        return [Fault("config-wrong", str(why), 'mend it: SITE.md, "The first fault"'),
+        return [Fault("config-wrong", str(why), 'mend it: reference/faults.md'),
                 *looked(server.away), *looked(beside.seen)]
     critical = features.meanings("CRITICAL")
     found = [it for side in sides(config, wanted, steps_of) for it in looked(side)]

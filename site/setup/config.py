@@ -9,7 +9,7 @@ from radacctd_site.core.steps import File
 
 HEAD = """\
 # The site: who reports, what the plans cost, who may use the desk. `radacctl setup` wrote it, and
-# only adds to it. man radacctd.toml has the rules, docs/SITE.md how it is changed.
+# only adds to it. man radacctd.toml has the rules, docs/reference/settings.md how it is changed.
 """
 DEBIT = {"class": corrections.CLASS, **corrections.WANTED}
 # FreeRADIUS' reports of somebody whom nobody let in have it.

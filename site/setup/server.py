@@ -122,7 +122,7 @@ def seen(config):
     said = machine.run(places.PROGRAM, "check", "--config", places.CONFIG, "--explain")[1]
     for line in said.splitlines():
         if "is the sample's, which is public" in line:
-            yield Fault("sample-value", f"{places.CONFIG}: {line}", "replace it: SITE.md")
+            yield Fault("sample-value", f"{places.CONFIG}: {line}", "replace it")
 
 
 def away():
