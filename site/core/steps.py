@@ -72,10 +72,10 @@ class Step:
         try:
             if self.look():
                 return
-            why = ""
+            why, cure = "", self.cure
         except (Failed, OSError) as fault:
-            why = f" ({fault})"
-        yield Fault(self.name, f"to be done: {self.what}{why}", self.cure)
+            why, cure = f" ({fault})", f"mend that; then: {self.cure}"
+        yield Fault(self.name, f"to be done: {self.what}{why}", cure)
 
 
 class Command(Step):

@@ -296,6 +296,7 @@ class Steps(Folder):
             [fault] = step.faults()
         self.assertEqual(fault.name, "unit-down")
         self.assertIn("line 7 is wrong", fault.text)
+        self.assertTrue(fault.cure.startswith("mend that; then: radacctl setup"), fault.cure)
 
     def test_why_a_unit_does_not_run_is_said(self):
         said = "explained: the disk refused\nx.service: Failed\nFailed to start x.service - x.\n"
