@@ -273,7 +273,11 @@ fn a_desk_that_signs_nothing_takes_no_signed_key(rt: HostRuntime) -> Result<(), 
     let alloc = rt.alloc();
     let mut desk = Desk::over(alloc, book(alloc)?)?;
     assert!(rt; is_wrong(alloc, &mut desk, AL)?);
-    assert!(rt; desk.keys.signed_key(alloc, &key(alloc, b"al", 1000)?)?.is_none());
+    assert!(rt;
+        desk.keys
+            .signed_key(alloc, &key(alloc, b"al", 1000)?)?
+            .is_none()
+    );
     Ok(())
 }
 
