@@ -29,7 +29,7 @@ def comment_before(text, place):
     """The comment above a place: its first paragraph, without what makes it a comment."""
     lines = []
     for line in reversed(text[:place].split("\n")[:-1]):
-        found = re.match(r" *(?:///|//!)(.*)|( *#\[)", line)
+        found = re.match(r" *(?:///|//!|--)(.*)|( *#\[)", line)
         if not found:
             break
         if found[1] is not None:

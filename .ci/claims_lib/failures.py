@@ -4,7 +4,8 @@ that allows a failure allows a body that always fails. What a pattern compares i
 
 import re
 
-from claims_lib.tree import FOR_TESTS, text_of, without_comments
+from claims_lib.openers import is_of_program
+from claims_lib.tree import text_of, without_comments
 
 WORD = r"(?:Unavailable|NoMemory|Memory|AllocError|CannotRead|Mute|Fault|OutOfMemory|Trouble)\b"
 # One more name would hide a failure.
@@ -40,13 +41,6 @@ def mentions_in(body):
             yield bool(PASSED_ON.search(before))
 
 
-def sources(checker):
-    for path in sorted(checker.tree.files):
-        crate, _, rest = path.removeprefix("crates/").partition("/src/")
-        if rest.endswith(".rt") and path.startswith("crates/") and not FOR_TESTS.search(crate):
-            yield path, without_comments(text_of(path))
-
-
 def counted(text):
     """How many failures each function makes by itself, and how many of a source are passed on."""
     own, passed = {}, 0
@@ -62,7 +56,8 @@ def counted(text):
 def rows(checker):
     yield "| Source | By itself | Passed on |"
     yield "|---|---|---|"
-    for path, text in sources(checker):
+    for path in sorted(filter(is_of_program, checker.tree.files)):
+        text = without_comments(text_of(path))
         for found in RENAMED.finditer(text):
             checker.find(1, f"{path}: {found[1] or found[2]}: another name of a failure")
         own, passed = counted(text)

@@ -1,10 +1,11 @@
 """The tables of docs/reference/faults.md and of imports: what ends a command, why a datagram is
-dropped or a book cannot be opened, what is wrong with a configuration or a record, and the lines of
-a server.
+dropped or a book cannot be opened, what is wrong with a configuration or a record, the lines of a
+server, and what the kit's check names.
 
 Texts, names, statuses and numbers are those of the sources; what they mean is in meanings.csv.
 """
 
+import ast
 import re
 
 from claims_lib import contracts, meanings
@@ -154,5 +155,20 @@ def line_rows(checker):
             yield f"| `{example}` | {meaning} |"
 
 
+# ---- what `radacctl setup --check` names
+
+
+def check_rows(checker, which):
+    """What each feature of the kit says that a fault means, set-up's first."""
+    paths = [it for it in checker.tree.files if re.fullmatch(r"site/\w+/feature\.py", it)]
+    yield "| Name | It means |"
+    yield "|---|---|"
+    for path in sorted(paths, key=lambda it: (not it.startswith("site/setup/"), it)):
+        for it in ast.parse(text_of(path)).body:
+            if isinstance(it, ast.Assign) and getattr(it.targets[0], "id", "") == which.upper():
+                for name, meaning in ast.literal_eval(it.value).items():
+                    yield f"| {name} | {meaning} |"
+
+
 MAKERS = {"faults": fault_rows, "reasons": reason_rows, "variants": variant_rows,
-          "unopened": unopened_rows, "lines": line_rows}
+          "unopened": unopened_rows, "lines": line_rows, "check": check_rows}

@@ -6,7 +6,6 @@ it is right if it is the row's value, or one of its range, or within a quarter o
 """
 
 import csv
-import io
 import re
 
 from claims_lib.tree import text_of
@@ -22,7 +21,7 @@ UNITS = {"1/s": "a second", "lines/s": "lines a second"}
 
 
 def rows():
-    return list(csv.DictReader(io.StringIO(text_of(PATH))))
+    return list(csv.DictReader(text_of(PATH).splitlines()))
 
 
 def latest():

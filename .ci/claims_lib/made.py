@@ -13,16 +13,15 @@ the function that gives the lines, whose links are those of a page of docs.
 import os
 import re
 
-from claims_lib import check, configured, contracts, failures, faults, history, made_tables
+from claims_lib import configured, contracts, failures, faults, history, made_tables
 from claims_lib import notions, reading, statuses, tables, typed
 from claims_lib.tree import ROOT, text_of
 
 PART = re.compile(r"^<!-- made: ([^\n]+?) -->\n(.*?)^<!-- end -->$", re.M | re.S)
 MAKERS = {}
-for source in (check, configured, contracts, failures, faults, history, made_tables, notions,
-               reading, statuses, tables, typed):
+for source in (configured, contracts, failures, faults, history, made_tables, notions, reading,
+               statuses, tables, typed):
     MAKERS.update(source.MAKERS)
-HOW = "make it again: .ci/claims --write"
 
 
 def maker_of(name):
@@ -76,7 +75,7 @@ def check(checker):
         if whole != text:
             pairs = zip(text.split("\n"), whole.split("\n") + [""])
             line = next((n for n, (is_so, new) in enumerate(pairs, 1) if is_so != new), 1)
-            checker.find(line, f"its source has changed: {HOW}")
+            checker.find(line, "its source has changed: make it again: .ci/claims --write")
     checker.page = ".ci/claims_lib/made.py"
     for name in sorted(set(MAKERS) - used):
         checker.find(1, f"no page has the part `{name}`")

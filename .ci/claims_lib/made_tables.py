@@ -1,6 +1,7 @@
 """Tables of pages, each made from the one place that has what it says."""
 
 import ast
+import collections
 import re
 
 from claims_lib import contracts, openers
@@ -96,7 +97,8 @@ def crates(_checker):
 
 def wrong_bodies(checker):
     """How many wrong bodies each crate has."""
-    counts = edits_of(checker.tree.files)
+    counts = collections.Counter(it.split("/")[1] for it in checker.tree.files
+                                 if it.startswith("crates/") and it.endswith(".edit"))
     yield f"The gate tries {sum(counts.values())} wrong bodies, and each must be refused:"
     yield ""
     yield row("Wrong bodies", "Crates")
@@ -104,14 +106,6 @@ def wrong_bodies(checker):
     for number in sorted(set(counts.values()), reverse=True):
         names = sorted(it for it in counts if counts[it] == number)
         yield row(str(number), ", ".join(f"`{it}`" for it in names))
-
-
-def edits_of(files):
-    counts = {}
-    for path in files:
-        if path.startswith("crates/") and path.endswith(".edit"):
-            counts[path.split("/")[1]] = counts.get(path.split("/")[1], 0) + 1
-    return counts
 
 
 def by_eye(_checker):

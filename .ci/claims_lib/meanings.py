@@ -5,19 +5,17 @@ a finding, and so is a row of a text that no source has.
 """
 
 import csv
-import os
 
-from claims_lib.tree import ROOT
+from claims_lib.tree import text_of
 
 PATH = ".ci/claims_lib/meanings.csv"
 
 
 def rows_of(table):
     """The rows of a table, in their order: text, meaning, cure."""
-    with open(os.path.join(ROOT, PATH), encoding="utf-8", newline="") as file:
-        for row in csv.DictReader(file):
-            if row["table"] == table:
-                yield row["text"], row["meaning"], row["cure"]
+    for row in csv.DictReader(text_of(PATH).splitlines()):
+        if row["table"] == table:
+            yield row["text"], row["meaning"], row["cure"]
 
 
 def compared(checker, table, found):

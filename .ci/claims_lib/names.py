@@ -102,7 +102,7 @@ def check_mentions(checker):
         for found in re.finditer(pattern, text) if "docs/" in text else ():
             line, page = text.count("\n", 0, found.start()) + 1, f"docs/{found[1]}"
             heading = " ".join((found[2] or "").replace("#", " ").split())
-            titles = [it.section.title for it in checker.pages.get(page, [])]
+            titles = [it.title for it in checker.pages.get(page, [])]
             if page not in tree.paths and found[1] != "PAGE.md":
                 checker.find(line, f"{page}: no such page")
             elif heading and heading not in titles and found[1] != "PAGE.md":

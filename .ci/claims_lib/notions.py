@@ -9,25 +9,16 @@ name` has the members of a record or the variants of a type, each with its comme
 import os
 import re
 
+from claims_lib import contracts
 from claims_lib.tree import text_of
 
 HEAD = r"^ *(?:(?:abbrev|unfoldable|data|record|pub|ghost|struct|enum|trait)\s+)+{}(?![\w'])"
 
 
 def comment_of(text, name):
-    """The comment of a definition, or None if there is no such definition."""
+    """The comment of a definition, or nothing."""
     found = re.search(HEAD.format(re.escape(name)), text, re.M)
-    if not found:
-        return None
-    lines = []
-    for line in reversed(text[: found.start()].split("\n")[:-1]):
-        line = line.strip()
-        if line.startswith("#["):
-            continue
-        if not line.startswith(("-- ", "--", "///")):
-            break
-        lines.insert(0, line.lstrip("-/ "))
-    return " ".join(lines).split("  # ")[0]
+    return contracts.comment_before(text, found.start()) if found else ""
 
 
 def named(words):

@@ -7,10 +7,9 @@ does to it: so those that change a file stand in one source, and who only looks 
 than `ReadsFiles`. A person reads these sources; each stands here with its reason.
 """
 
-import os
 import re
 
-from claims_lib.tree import FOR_TESTS, ROOT, text_of, without_comments
+from claims_lib.tree import FOR_TESTS, text_of, without_comments
 
 READS = "crates/acct_reads/src/lib.rt"
 JOBS = "crates/acct_program_jobs/src/"
@@ -264,17 +263,10 @@ def check(checker):
     check_sealed(checker)
     check_by_eye(checker)
     checker.page = ".ci/claims_lib/openers.py"
-    for path, why in allowed():
-        if not os.path.exists(os.path.join(ROOT, path)):
-            checker.find(1, f"{path} does not exist: take it out of the rule on {why}")
+    allowed = {path for _, _, sources in RULES for path in sources}.union(CALLERS)
+    for path in sorted(allowed - checker.tree.paths):
+        checker.find(1, f"{path} does not exist: take it out")
     for path, names in GIVEN.items():
         given = {name for name, _ in given_in(without_comments(text_of(path)))}
         for name in sorted(set(names.split()) - given):
             checker.find(1, f"`{name}` of {path} is not given the runtime: take it out")
-
-
-def allowed():
-    """Each source that a rule allows, with the rule."""
-    for what, _, sources in RULES:
-        yield from ((path, what) for path in sources)
-    yield from ((path, "the system's files") for path in CALLERS)

@@ -1,4 +1,4 @@
-"""The pages as blocks of text, each in its section, with the texts in backticks and the links."""
+"""The pages as blocks of text, each with its heading, its texts in backticks and its links."""
 
 import re
 
@@ -6,8 +6,8 @@ import re
 class Block:
     """A paragraph, a list item, a row of a table, a heading or a block of code of a page."""
 
-    def __init__(self, line, kind, text, section):
-        self.line, self.kind, self.text, self.section = line, kind, text, section
+    def __init__(self, line, kind, text, title):
+        self.line, self.kind, self.text, self.title = line, kind, text, title
 
     def line_at(self, place):
         """The line of the page on which a place of the text is."""
@@ -39,23 +39,11 @@ class Block:
         return [it.strip() for it in re.split(r"(?<!\\)\|", self.text)[1:-1]]
 
 
-class Section:
-    """A heading with what is below it, up to the next one of its level."""
-
-    def __init__(self, title, level, above):
-        self.title, self.level, self.above = title, level, above
-
-    def chain(self):
-        """This section and those that it is in, the innermost first."""
-        return [self] + (self.above.chain() if self.above else [])
-
-
 class Reader:
     """Reads a page in Markdown, line by line."""
 
     def __init__(self):
-        self.section = Section("", 0, None)
-        self.blocks, self.fenced, self.last = [], False, "none"
+        self.blocks, self.title, self.fenced, self.last = [], "", False, "none"
 
     def kind_of(self, line):
         if self.fenced or line.startswith("    "):
@@ -66,22 +54,16 @@ class Reader:
             return "heading"
         return "text" if line.strip() else "none"
 
-    def begin(self, heading):
-        """Begins the section of a heading."""
-        level = len(heading.split()[0])
-        above = next((it for it in self.section.chain() if it.level < level), None)
-        self.section = Section(heading[level:].strip(), level, above)
-
     def read(self, number, line):
         if line.lstrip().startswith("```"):
             self.fenced, self.last = not self.fenced, "none"
             return
         kind = self.kind_of(line)
         if kind == "heading":
-            self.begin(line)
+            self.title = line.lstrip("#").strip()
         starts = kind in ("row", "heading") or re.match(r"\s*(- |\d+\. )", line)
         if kind != "none" and (kind != self.last or (starts and kind != "code")):
-            self.blocks.append(Block(number, kind, line, self.section))
+            self.blocks.append(Block(number, kind, line, self.title))
         elif kind != "none":
             self.blocks[-1].text += "\n" + line
         self.last = kind
@@ -100,7 +82,7 @@ def anchors_of(blocks):
     found = []
     for block in blocks:
         if block.kind == "heading":
-            plain = re.sub(r"\[([^\]]*)\]\([^)]*\)", r"\1", block.section.title).lower()
+            plain = re.sub(r"\[([^\]]*)\]\([^)]*\)", r"\1", block.title).lower()
             slug = re.sub(r"[^\w\- ]", "", plain.replace("`", "")).replace(" ", "-")
             found.append(f"{slug}-{found.count(slug)}" if slug in found else slug)
     return found

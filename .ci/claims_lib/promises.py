@@ -38,7 +38,7 @@ PROMISE = re.compile(
 )
 # What carrying forward does to a report that comes again; and those that come again at once.
 ONCE, CARRIED = re.compile(r"charged\s+once", re.I), re.compile(r"carried\s+forward|`forward`")
-AT_ONCE = re.compile(r"After a power cut|The queues and outboxes drain|If its sync\s+failed")
+AT_ONCE = re.compile(r"If its sync\s+failed")
 # Parts of which each row, or each item, names what holds it.
 WHOLE = (
     ("docs/proofs/AUDIT.md", "What is only tested", "row"),
@@ -92,7 +92,7 @@ def check_whole(checker):
     """Each row or item of these parts names what holds it."""
     for checker.page, title, kind in WHOLE:
         blocks = checker.pages.get(checker.page, [])
-        found = [it for it in blocks if it.section.title == title]
+        found = [it for it in blocks if it.title == title]
         if not found:
             checker.find(1, f"it has no part `{title}`: see claims_lib/promises.py")
         for block, after in zip(found, [*found[1:], None]):

@@ -120,7 +120,7 @@ def promise_of(checker):
     """The seven functions of the promise, each with its file."""
     for block in checker.pages[PAGE]:
         found = re.fullmatch(r"\|[^|]*\| `(\w+)` \| `([\w/]+\.rt)` \|", block.text)
-        if found and block.section.title == TITLE:
+        if found and block.title == TITLE:
             yield found[1], found[2]
 
 

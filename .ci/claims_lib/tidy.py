@@ -65,8 +65,7 @@ def in_definitions(text):
 
 def counts_of(tree):
     """The most of each kind, and the places that are too long now."""
-    with open(os.path.join(ROOT, LIMITS), encoding="ascii", newline="") as file:
-        most = {row["kind"]: int(row["most"]) for row in csv.DictReader(file)}
+    most = {row["kind"]: int(row["most"]) for row in csv.DictReader(text_of(LIMITS).splitlines())}
     found = {kind: [] for kind in most}
     for path in (it for it in tree.files if re.match(r"crates/.*\.(?:rt|antt)$", it)):
         text = text_of(path)
