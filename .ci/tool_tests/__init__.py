@@ -1,4 +1,4 @@
-"""Unit tests of the package of radacctl, in seconds: .ci/tools runs them without the program."""
+"""Unit tests of radacctl's package and of .ci/claims: .ci/tools runs them without the program."""
 
 import importlib.machinery
 import importlib.util
