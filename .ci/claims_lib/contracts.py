@@ -93,7 +93,9 @@ def unclaimed(_checker):
                     name = f"{owner}::{function}" if owner else function
                     without.setdefault(crate, []).append(name)
     total = sum(map(len, without.values()))
-    yield f"Of {count} public functions {total} have no clause:"
+    explaining = len(without.get("acct_program_explain", ()))
+    yield (f"Of {count} public functions {total} have no clause: {explaining} of"
+           f" `acct_program_explain`, whose texts decide nothing, and {total - explaining} others:")
     yield ""
     yield "| Crate | Functions without a clause |"
     yield "|---|---|"
