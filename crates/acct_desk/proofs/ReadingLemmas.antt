@@ -8,9 +8,8 @@ use Rattle.std.proofs.lemmas.Bool.Decides.{nat_tests}
 use Rattle.std.proofs.lemmas.List.{take-append-le, take-append-drop, length-map, take_all}
 use Rattle.std.proofs.Math.Seq.{take-append_seam}
 use Rattle.httparse.specs.Grammar.{RequestHead, print_request, ReadsRequest, HasNoRequest}
-use Rattle.httparse.specs.Grammar.{NeverHasRequest}
 use Rattle.httparse.specs.Spans.{IsRequestAt, header_bytes, name_and_value}
-use Rattle.httparse.specs.Spans.{IsRequestWithin, FindsRequest}
+use Rattle.httparse.specs.Spans.{IsRequestWithin, FindsRequest, RequestOverflows}
 use Rattle.httparse.specs.declared.spans.HeaderSpan.{HeaderSpan}
 use Rattle.httparse.specs.declared.spans.RequestSpans.{RequestSpans}
 use Rattle.httparse.specs.declared.Error.{Error}
@@ -88,17 +87,20 @@ partial_stays watch bytes front is few looked near ends =
 
 -- ---- settled without a head
 
--- what begins with octets that can't become a request can't either
+-- what begins with octets that no head of few fields can begin can't be begun by one either
 pub never_settled : (bytes front : List ℕ) → front ≡ take (min (length bytes) 8192) bytes
-    → NeverHasRequest front → IsSettled bytes
-never_settled bytes front is never =
+    → RequestOverflows 64 front → IsSettled bytes
+never_settled bytes front is overflows =
     let n = min (length bytes) 8192 in
-    inr (λ more.
+    inr (λ more head begins.
     let whole : front ++ (drop n bytes ++ more) ≡ bytes ++ more =
     sym (append_assoc front (drop n bytes) more)
     ∙ ap (λ bs. (bs ++ drop n bytes) ++ more) is
     ∙ ap (λ bs. bs ++ more) (take-append-drop n bytes) in
-    subst HasNoRequest whole (never (drop n bytes ++ more)))
+    let many : 64 < length head.fields =
+    overflows (drop n bytes ++ more) head begins.reads.0
+    (subst (λ bs. ReadsRequest bs head begins.reads.0) (sym whole) begins.reads.1) in
+    omega (arith, many, begins.few))
 
 -- the parser answers each head of few fields
 pub no_head_found : (front : List ℕ) (headers : List HeaderSpan)

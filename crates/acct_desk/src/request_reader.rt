@@ -16,8 +16,8 @@ ghost use Rattle.acct_desk.specs.inner.Reading.{NoHeadEnds, StaysOpen};
 
 use crate::framing::{HEAD_LIMIT, Reach, declared_length, front_of, reach_by_fields};
 use crate::head::FIELD_LIMIT;
+use httparse::Status;
 use httparse::spans::{EMPTY_HEADER_SPAN, HeaderSpan, parse_request};
-use httparse::{Error as HeadError, Status};
 use std::alloc::Global;
 use std::io::{ErrorKind, Read};
 use thiserror::Error;
@@ -150,11 +150,9 @@ fn look(bytes: &[u8]) -> Option<Watch>
             next: bytes.len().saturating_mul(2).min(HEAD_LIMIT),
             ends: true,
         }),
-        Err(HeadError::TooManyHeaders) if bytes.len() < HEAD_LIMIT => Some(Watch {
-            next: HEAD_LIMIT,
-            ends: false,
-        }),
-        _ => None,
+        Ok(Status::Partial) => None,
+        // Whatever follows, it has no head, or one of too many fields.
+        Err(_) => None,
     }
 }
 

@@ -131,7 +131,7 @@ static READS: [Length; 6] = [
     (&HEAD_8192, 8192),
     (&[PADDED, (b"p", 11937), HEAD_END], 8192),
     (&BODY_4096, 4172),
-    (&[FRONT, (b"A:\r\n", 3999), LINE_END], 8192),
+    (&[FRONT, (b"A:\r\n", 3999), LINE_END], 1024),
 ];
 
 fn joined(alloc: Global, pieces: &[Piece]) -> Result<Vec<u8>, Fail> {

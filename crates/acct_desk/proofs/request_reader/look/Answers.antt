@@ -21,8 +21,8 @@ returns-in-More-clause-open c =
     complete_stays _ bytes front c.parse_request.new.headers head.head at.0
     c.front_of-front.ensures (subst P c.in-More.is extent) at.1 (omega arith) c.end_of.ensures
 
-pub returns-in_default-reach_by_fields : goal.returns-in_default-reach_by_fields
-returns-in_default-reach_by_fields c =
+pub returns-in_default : goal.returns-in_default
+returns-in_default c =
     let head = c.in-Ok-Complete in
     let at = from_complete c.parse_request.result head.field-0 head.head _ head.is head.field-0-is
     c.parse_request.ensures.complete in
@@ -32,7 +32,7 @@ returns-in_default-reach_by_fields c =
     c.parse_request.new.headers head.head at.0 _ c.front_of-front.ensures at.1 within (omega arith)
     c.reach_by_fields.ensures.reach in
     record {
-      settled = inl (c.reach_by_fields.result, extent, c.in_default-reach_by_fields.not-More);
+      settled = inl (c.reach_by_fields.result, extent, c.in_default.not-More);
       «open» = tt;
     }
 
@@ -43,21 +43,12 @@ returns-in-Ok-Partial-clause-open c =
     partial_stays _ c.args.bytes.now c.front_of-front.result.now c.front_of-front.ensures
     (omega arith) none (omega arith) refl
 
-pub returns-in_default-clause-settled : goal.returns-in_default-clause-settled
-returns-in_default-clause-settled c =
+pub returns-in-Ok-Partial-2-clause-settled : goal.returns-in-Ok-Partial-2-clause-settled
+returns-in-Ok-Partial-2-clause-settled c =
     too_large_settled c.args.bytes.now c.front_of-front.result.now c.front_of-front.ensures
     (omega arith) (no_head_found c.front_of-front.result.now c.parse_request.new.headers
     c.parse_request.result c.parse_request.ensures.found (λ spans e. cc))
 
-pub returns-in_default-2-clause-settled : goal.returns-in_default-2-clause-settled
-returns-in_default-2-clause-settled c =
-    too_large_settled c.args.bytes.now c.front_of-front.result.now c.front_of-front.ensures
-    (omega arith) (no_head_found c.front_of-front.result.now c.parse_request.new.headers
-    c.parse_request.result c.parse_request.ensures.found (λ spans e. cc))
-
-pub returns-in_default-3 : goal.returns-in_default-3
-returns-in_default-3 c = record {
-  settled = never_settled c.args.bytes.now c.front_of-front.result.now c.front_of-front.ensures
-      (search rules);
-  «open» = tt;
-}
+pub returns-in-Err-clause-settled : goal.returns-in-Err-clause-settled
+returns-in-Err-clause-settled c = never_settled c.args.bytes.now c.front_of-front.result.now
+    c.front_of-front.ensures (rw c.in-Err.is at c.parse_request.ensures.no_room)
