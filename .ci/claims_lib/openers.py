@@ -15,6 +15,7 @@ READS = "crates/acct_reads/src/lib.rt"
 JOBS = "crates/acct_program_jobs/src/"
 COMMANDS = "crates/acct_program_commands/src/"
 CHANGES = COMMANDS + "file_changes.rt"
+DATAGRAMS = "crates/acct_net/src/datagrams.rt"
 MAIN = "crates/radacctd/src/main.rt"
 
 # Each rule: what it finds, how, and the sources that may have it.
@@ -53,16 +54,22 @@ RULES = (
         },
     ),
     (
-        "a proof that a file was put or read",
-        r"\bunfolding\([^)]*\bPuts::\w+",
+        "a proof that a file was put or read, or octets sent",
+        r"\bunfolding\([^)]*\b(?:Puts|Sent)::\w+",
         {
             CHANGES: "`put_in_place` alone says that a file was put",
             COMMANDS + "config_file.rt": "`read_file` alone says what was read",
+            DATAGRAMS: "`send_waiting` alone says what was sent",
         },
+    ),
+    (
+        "a datagram that is sent, or a connection that is made",
+        r"\b(?:send_to|connect(?:_timeout)?)\(",
+        {DATAGRAMS: "it sends replies"},
     ),
 )
 # A proof that unfolds one of these says of a file whatever it likes.
-SEALED = re.compile(r"\bunfolding\b[^\n]*\b(?:WasPut|WasRead)\b")
+SEALED = re.compile(r"\bunfolding\b[^\n]*\b(?:WasPut|WasRead|WasSent)\b")
 
 # How many calls of what binds sockets, or of what calls that, stand in each source: no second one.
 BINDS = re.compile(r"\b\w+::bind\w*\(|(?<!fn )\b(?:bound|bind_reports)\(")

@@ -1,2 +1,3 @@
 pub mod Bound
+pub mod Doors
 pub mod inner

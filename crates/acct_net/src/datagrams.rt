@@ -13,6 +13,7 @@ ghost use Rattle.std.specs.List.{All, list_any, position};
 ghost use Rattle.acct_net.specs.Bound.{AreUnheardAt};
 ghost use Rattle.acct_net.specs.inner.RadiusSockets.{HasFault, HasNotSent, HasReceived, HasSent};
 ghost use Rattle.acct_net.specs.inner.RadiusSockets.{IsWokenAt, MayReceiveAt};
+ghost use Rattle.acct_net.specs.inner.Sent.{WasSent};
 ghost use Rattle.acct_net.specs.inner.Turns.{in_turn};
 ghost use Rattle.std.specs.IoError.{error_kind};
 
@@ -199,9 +200,9 @@ impl Datagrams {
     /// If the system fails, or does not take the whole reply.
     pub fn reply(&mut self, bytes: &[u8], to: SocketAddrV4) -> Result<(), Fault>
         ensures sent { OnOk result
-            (HasSent self.new.sockets.items self.new.last (length bytes.now) to) }
+            (HasSent self.new.sockets.items self.new.last bytes.now to) }
         ensures failed { OnErr result (IsSome (slice_get self.old.sockets.items self.old.last)
-            → HasNotSent self.new.sockets.items self.new.last (length bytes.now) to) }
+            → HasNotSent self.new.sockets.items self.new.last bytes.now to) }
         ensures other { self.new ≡ record self.old { sockets = self.new.sockets } }
     {
         let socket = self.sockets.get_mut(self.last).ok_or(Fault)?;
@@ -254,7 +255,8 @@ impl RadiusSocket {
     // Sends a datagram. The outcome, and where to, is kept beside the socket: no contract of the
     // system says so, and what is made of it above is a clause.
     fn send(&mut self, bytes: &[u8], to: SocketAddrV4) -> Result<usize, Fault>
-        ensures { self.new ≡ record self.old { sent = Some (result, to) } }
+        ensures kept { self.new ≡ record self.old { sent = Some (result, to) } }
+        ensures sent { WasSent bytes.now to }
     {
         let sent = send_waiting(&self.udp, bytes, to).map_err(|_| Fault);
         self.sent = Some((sent, to));
@@ -263,7 +265,11 @@ impl RadiusSocket {
 }
 
 // Sends a datagram. If the system has no space for it now, this waits until it has.
-fn send_waiting(udp: &UdpSocket, bytes: &[u8], to: SocketAddrV4) -> io::Result<usize> {
+// No contract of the system says what leaves: this is read by eye.
+#[tactic(auto, unfolding(crate::specs::inner::Sent::WasSent))]
+fn send_waiting(udp: &UdpSocket, bytes: &[u8], to: SocketAddrV4) -> io::Result<usize>
+    ensures { WasSent bytes.now to }
+{
     match udp.send_to(bytes, to) {
         Err(error) if error.kind() == ErrorKind::WouldBlock => {
             udp.set_nonblocking(false)?;

@@ -1,8 +1,8 @@
 //! The sockets of a server: datagrams of access servers, and callers of the desk.
 //!
 //! 1. A turn is one of the event loop, and every fault is counted.
-//! 2. While a flag is set, what arrives is received and not handed on. Nobody is answered.
-ghost use Rattle.std.specs.Prelude.{◌≡◌, ◌+◌, ◌-◌, ◌<◌, ◌≤◌, ◌^◌, false, None, Some, IfOk, IfSome};
+//! 2. In a silent turn, what arrives is received and not handed on. Nobody is answered.
+ghost use Rattle.std.specs.Prelude.{◌≡◌, ◌+◌, ◌-◌, ◌<◌, ◌≤◌, ◌^◌, true, false, None, IfOk, IfSome};
 ghost use Rattle.std.specs.Prelude.{OnErr, OnOk};
 ghost use Rattle.std.specs.List.{list_any};
 ghost use Rattle.acct_service.specs.Told.{CountsFault, Grows, given, sent};
@@ -15,7 +15,6 @@ use crate::event_loop::EventLoop;
 use acct_service::{Event, Exchange, Fault};
 use acct_wire::Reason;
 use std::alloc::Global;
-use std::cell::Cell;
 use std::io;
 use std::net::Net;
 use std::time::Clock;
@@ -25,10 +24,6 @@ pub struct Sockets<'r, R: Net> {
     event_loop: EventLoop<'r, R>,
     turns: u64,
     failures: u64,
-    // While this is set, nothing is handed on.
-    silenced: Option<&'r Cell<bool>>,
-    // Whether it was set in the last turn.
-    was_silent: bool,
     ghost waited: { event_loop.readiness.waits ≡ turns },
     ghost received: { event_loop.datagrams.receives ≤ turns },
     ghost served: { event_loop.desk.serves ≤ turns },
@@ -40,8 +35,6 @@ impl<'r, R: Net> Drop for Sockets<'r, R> {
             event_loop: _,
             turns: _,
             failures: _,
-            silenced: _,
-            was_silent: _,
         } = self;
     }
 }
@@ -73,44 +66,7 @@ impl<'r, R: Net + Clock> Sockets<'r, R> {
             event_loop: EventLoop::new(runtime, alloc, datagrams, desk)?,
             turns: 0,
             failures: 0,
-            silenced: None,
-            was_silent: false,
         })
-    }
-
-    /// The same sockets. While the flag is set, what arrives at them is received and not handed on:
-    /// a datagram is lost, and a caller is dropped, as by a server that is not there.
-    pub fn silenced_by(self, flag: &'r Cell<bool>) -> Sockets<'r, R>
-        ensures sockets { result.event_loop ≡ self.entry.event_loop }
-        ensures counts { (result.turns ≡ self.entry.turns)
-            × (result.failures ≡ self.entry.failures) }
-        ensures silenced { result.silenced ≡ Some flag.entry }
-    {
-        let Sockets {
-            event_loop,
-            turns,
-            failures,
-            silenced: _,
-            was_silent: _,
-        } = self;
-        Sockets {
-            event_loop,
-            turns,
-            failures,
-            silenced: Some(flag),
-            was_silent: false,
-        }
-    }
-
-    // Whether nothing is handed on. No contract says what the flag holds: this is read by eye, and
-    // what a turn makes of it is a clause.
-    fn is_silenced(&self) -> bool
-        ensures { self.now.silenced ≡ None → result ≡ false }
-    {
-        match self.silenced {
-            Some(flag) => flag.get(),
-            None => false,
-        }
     }
 
     /// The ports of datagrams, at the first address, and of callers.
@@ -139,7 +95,7 @@ impl<'r, R: Net + Clock> Exchange for Sockets<'r, R> {
 
     ghost told = { λ _. None };
 
-    fn next(&mut self) -> Result<Option<Event>, Fault>
+    fn next(&mut self, is_silent: bool) -> Result<Option<Event>, Fault>
         requires turns { self.old.turns < 2 ^ 64 - 1 }
         requires failures { self.old.failures < 2 ^ 64 - 1 }
         ensures turns { self.new.turns ≡ self.old.turns + 1 }
@@ -156,22 +112,21 @@ impl<'r, R: Net + Clock> Exchange for Sockets<'r, R> {
         ensures fault { OnErr result (IsFault self.new.event_loop.readiness.has_failed
             self.new.event_loop.are_callers_first self.new.event_loop.datagrams.sockets.items
             self.new.event_loop.datagrams.last) }
-        ensures never { self.old.silenced ≡ None → self.new.was_silent ≡ false }
-        // Unless the flag is set, what was received is handed on.
-        ensures heard { self.new.was_silent ≡ false → IfOk result (λ event. event ≡ None
+        ensures silent { is_silent ≡ true → IfOk result (λ event. event ≡ None) }
+        // Unless the turn is silent, what was received is handed on.
+        ensures heard { is_silent ≡ false → IfOk result (λ event. event ≡ None
             → list_any (λ socket. socket.may_receive) self.new.event_loop.datagrams.sockets.items
             ≡ false) }
-        ensures nobody { self.new.was_silent ≡ false → IfOk result (λ event. event ≡ None
+        ensures nobody { is_silent ≡ false → IfOk result (λ event. event ≡ None
             → self.new.event_loop.desk.unanswered ≡ Unanswered.Nobody) }
     {
-        self.was_silent = self.is_silenced();
         self.turns += 1;
         let event = self.event_loop.next_event();
         if event.is_err() {
             self.failures += 1;
         }
         match event {
-            Ok(Some(_)) if self.was_silent => Ok(None),
+            Ok(Some(_)) if is_silent => Ok(None),
             event => event,
         }
     }

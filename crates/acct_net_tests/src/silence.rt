@@ -1,8 +1,8 @@
-//! Sockets that are silenced: what arrives is lost, and nobody is answered. Then all is as before.
+//! Silent turns: what arrives is lost, and nobody is answered. Then all is as before.
 use crate::callers::{REQUEST, bound, caller, echoes, gets, next};
+use crate::turns::turn_so;
 use acct_net::{Datagrams, Sockets};
 use acct_service::{Exchange, What};
-use std::cell::Cell;
 use std::net::UdpSocket;
 use std::test::Fail;
 
@@ -20,29 +20,27 @@ fn hears<X: Exchange>(exchange: &mut X, wanted: &[u8]) -> bool {
     }
 }
 
-// Whether there is no event in so many turns.
+// Whether there is no event in so many silent turns.
 fn is_idle<X: Exchange>(exchange: &mut X) -> bool {
-    match next(exchange, TURNS) {
-        Ok(None) => true,
-        _ => false,
+    for _ in 0..TURNS {
+        if !matches!(&turn_so(exchange, true), Ok(None)) {
+            return false;
+        }
     }
+    true
 }
 
 #[test]
 fn nothing_is_handed_on(rt: HostRuntime) -> Result<(), Fail> {
-    let flag = Cell::new(false);
-    let (sockets, desk) = bound(&rt)?;
+    let (mut sockets, desk) = bound(&rt)?;
     let server = ("127.0.0.1", sockets.radius_port(0)?);
-    let mut sockets = sockets.silenced_by(&flag);
     let sender = UdpSocket::bind(&rt, ("127.0.0.1", 0))?;
     sender.send_to(b"one", server)?;
     assert!(rt; hears(&mut sockets, b"one"));
-    flag.set(true);
     sender.send_to(b"two", server)?;
     let mut stream = caller(&rt, desk, REQUEST)?;
     assert!(rt; is_idle(&mut sockets));
     assert!(rt; gets(rt.alloc(), &mut stream, b""));
-    flag.set(false);
     sender.send_to(b"three", server)?;
     assert!(rt; hears(&mut sockets, b"three"));
     let mut stream = caller(&rt, desk, REQUEST)?;

@@ -55,4 +55,5 @@ pub bounded : (name : Text) (rows : List Row) (asked : Job) → WordsAskFor name
     → HasBounds asked
 bounded name rows (job.Feed config) asked = tt
 bounded name rows (job.Check config database kept audits) asked = tt
+bounded name rows (job.Key config account until) asked = tt
 bounded name rows (job.Book paths work) asked = of_a_book name rows work asked.1

@@ -84,6 +84,16 @@ at_rule = record (option_rule (codes "at")) {
   parser = Some (parser.Signed (pos 1) (pos 9007199254740991));
 }
 
+-- `--until SECONDS`
+abbrev pub until_rule : Rule
+until_rule = record (option_rule (codes "until")) {
+  parser = Some (parser.Signed (pos 1) (pos 9007199254740991));
+}
+
+-- `ACCOUNT`
+abbrev pub account_rule : Rule
+account_rule = record (new_rule (codes "account")) { value_names = 1 }
+
 -- `--oldest-report DAYS`
 abbrev pub oldest_rule : Rule
 oldest_rule = record (option_rule (codes "oldest-report")) {
@@ -105,6 +115,11 @@ feed_app = explained (with_rule (new_app (codes "feed")) config_rule)
 -- a command that needs a configuration: `--config FILE`
 abbrev pub configured_app : Text → App
 configured_app name = with_rule (new_app name) (required config_rule)
+
+-- `key --config FILE --until SECONDS [--explain] ACCOUNT`
+abbrev pub key_app : App
+key_app = with_rule (explained (with_rule (configured_app (codes "key")) (required until_rule)))
+    (required account_rule)
 
 -- a command that keeps a book: `--config FILE --db FILE [--explain]`
 abbrev pub book_app : Text → App
@@ -180,5 +195,5 @@ with_commands a (c ∷ cs) = with_commands (with_subcommand a c.top) cs
 abbrev pub app : App
 app = with_commands bare_app
     (feed_app ∷ check_app ∷ init_app ∷ serve_app ∷ opening_app (codes "import")
-    ∷ export_app ∷ opening_app (codes "migrate") ∷ plans_app ∷ forward_app
+    ∷ export_app ∷ opening_app (codes "migrate") ∷ plans_app ∷ forward_app ∷ key_app
     ∷ [])

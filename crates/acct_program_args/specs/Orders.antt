@@ -4,7 +4,9 @@ use Rattle.std.specs.Prelude.{[], Option, Some, None, IfSome, is_some, unwrap_or
 use Rattle.std.specs.Option.{option_or}
 use Rattle.clap.specs.Words.{Row, Text, all_of, first_of, one_of}
 use Rattle.clap.specs.Takes.{is_given}
+use Rattle.percent_encoding.specs.Percent.{percent_decode}
 use Rattle.acct_model.specs.Numbers.{number_up_to}
+use Rattle.acct_model.specs.Vouchers.{is_voucher_account}
 use Rattle.acct_program_args.specs.declared.job.Order.{Order}
 use Rattle.acct_program_args.specs.declared.job.Job.{Job}
 use Rattle.acct_program_args.specs.declared.job.Job.TheVariants as job
@@ -157,6 +159,12 @@ WordsAskOfBook name rows of_book.ListPlans =
 WordsAskOfBook name rows (of_book.Forward carrying) =
     (name ≡ codes "forward") × IsCarrying rows carrying
 
+-- the account that the options name, percent-decoded: 1 to 253 octets
+abbrev pub IsAccount : List Row → List ℕ → Type 0
+IsAccount rows account =
+    (text : Text) × (first_of (codes "account") rows ≡ Some text)
+    × (account ≡ percent_decode text) × (is_voucher_account account ≡ true)
+
 -- what the rows of a subcommand's options ask for
 abbrev pub WordsAskFor : Text → List Row → Job → Type 0
 WordsAskFor name rows (job.Feed config) =
@@ -165,6 +173,9 @@ WordsAskFor name rows (job.Check config database kept audits) =
     (name ≡ codes "check") × (first_of (codes "config") rows ≡ Some config)
     × (first_of (codes "db") rows ≡ database) × AreKeptNames rows kept
     × IsFlag (codes "audit") rows audits × (audits ≡ true → is_some database ≡ true)
+WordsAskFor name rows (job.Key config account until) =
+    (name ≡ codes "key") × (first_of (codes "config") rows ≡ Some config)
+    × IsAccount rows account × IsNumber (codes "until") rows 9007199254740991 until
 WordsAskFor name rows (job.Book paths asked) = ArePaths rows paths × WordsAskOfBook name rows asked
 
 -- the order is that of the subcommand that the command line names
@@ -211,4 +222,5 @@ AreBounded (of_book.Forward carrying) =
 abbrev pub HasBounds : Job → Type 0
 HasBounds (job.Feed config) = ⊤
 HasBounds (job.Check config database kept audits) = ⊤
+HasBounds (job.Key config account until) = ⊤
 HasBounds (job.Book paths asked) = AreBounded asked

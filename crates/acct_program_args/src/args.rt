@@ -7,6 +7,7 @@ ghost use Rattle.acct_program_args.specs.CommandLine.{port_rule, turns_rule, syn
 ghost use Rattle.acct_program_args.specs.CommandLine.{balances_every_rule, seconds_rule, tied};
 ghost use Rattle.acct_program_args.specs.CommandLine.{before_rule, days_rule, at_rule, keep_rule};
 ghost use Rattle.acct_program_args.specs.CommandLine.{oldest_rule, audit_rule};
+ghost use Rattle.acct_program_args.specs.CommandLine.{account_rule, until_rule};
 
 use crate::exports::EXPORT_NAMES;
 use clap::{Arg, ArgAction};
@@ -239,6 +240,27 @@ pub fn at_option<'a>(alloc: Global) -> Arg<'a>
     valued(alloc, "at", "MOMENT")
         .value_parser(clap::value_parser!(i64).range(1..=9_007_199_254_740_991))
         .help("Carries sessions that ended before this moment, in seconds since 1970")
+}
+
+/// `--until SECONDS`
+pub fn until_option<'a>(alloc: Global) -> Arg<'a>
+    ensures rule { rule_of result ≡ until_rule }
+    ensures local { result.global ≡ false }
+{
+    valued(alloc, "until", "SECONDS")
+        .value_parser(clap::value_parser!(i64).range(1..=9_007_199_254_740_991))
+        .help("The last second in which the key is taken, since 1970")
+}
+
+/// `ACCOUNT`
+pub fn account_option<'a>(alloc: Global) -> Arg<'a>
+    ensures rule { rule_of result ≡ required account_rule }
+    ensures local { result.global ≡ false }
+{
+    Arg::new(alloc, "account")
+        .value_name("ACCOUNT")
+        .required(true)
+        .help("The account, 1 to 253 octets; a % and two hexadecimal digits are one octet")
 }
 
 /// `--keep CLIENT`

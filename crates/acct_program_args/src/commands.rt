@@ -7,14 +7,15 @@ ghost use Rattle.clap.specs.Words.{App, Rule, app_of, rule_of, new_app, with_rul
 ghost use Rattle.acct_program_args.specs.CommandLine.{app, bare_app, feed_app, check_app, book_app};
 ghost use Rattle.acct_program_args.specs.CommandLine.{configured_app, serve_app, export_app};
 ghost use Rattle.acct_program_args.specs.CommandLine.{forward_app, init_app, opening_app};
-ghost use Rattle.acct_program_args.specs.CommandLine.{plans_app};
+ghost use Rattle.acct_program_args.specs.CommandLine.{key_app, plans_app};
 ghost use Rattle.acct_program_args.specs.inner.Made.{IsMade};
 
 use crate::args::{
-    at_option, audit_option, balances_every_option, balances_option, before_option, bind_option,
-    config_option, database_option, desk_bind_option, dry_run_flag, explain_flag, keep_option,
-    list_flag, lose_flag, needed, oldest_option, page_sums_flag, port_option, quiet_flag,
-    silent_option, status_option, sync_option, turns_option, what_option, yes_flag,
+    account_option, at_option, audit_option, balances_every_option, balances_option, before_option,
+    bind_option, config_option, database_option, desk_bind_option, dry_run_flag, explain_flag,
+    keep_option, list_flag, lose_flag, needed, oldest_option, page_sums_flag, port_option,
+    quiet_flag, silent_option, status_option, sync_option, turns_option, until_option, what_option,
+    yes_flag,
 };
 use clap::{Arg, Command};
 use std::alloc::{AllocError, Global};
@@ -37,7 +38,8 @@ pub fn command_line<'a>(alloc: Global) -> Result<Command<'a>, AllocError>
     let program = with_command(program, export_command(alloc));
     let program = with_command(program, migrate_command(alloc));
     let program = with_command(program, plans_command(alloc));
-    with_command(program, forward_command(alloc))
+    let program = with_command(program, forward_command(alloc));
+    with_command(program, key_command(alloc))
 }
 
 // The program without its commands.
@@ -178,6 +180,16 @@ fn forward_command<'a>(alloc: Global) -> Result<Command<'a>, AllocError>
     let command = with_option(command, dry_run_flag(alloc));
     let command = with_option(command, yes_flag(alloc));
     with_option(command, oldest_option(alloc, oldest))
+}
+
+fn key_command<'a>(alloc: Global) -> Result<Command<'a>, AllocError>
+    ensures { IsMade key_app result }
+{
+    let about = "Prints a key that shows an account's pages until a moment, signed by [stamp]";
+    let command = configured_command(alloc, "key", about);
+    let command = with_option(command, needed(until_option(alloc)));
+    let command = with_option(command, explain_flag(alloc));
+    with_option(command, account_option(alloc))
 }
 
 // A command that opens an existing book.

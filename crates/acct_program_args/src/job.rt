@@ -2,7 +2,7 @@
 ghost use Rattle.std.specs.Prelude.{◌≡◌, ◌≤◌, IfSome};
 ghost use Rattle.acct_program_args.specs.Orders.{seconds_of};
 
-use acct_model::Text;
+use acct_model::{Octets, Text};
 
 /// The seconds of a day.
 const DAY: u64 = 86_400;
@@ -56,6 +56,15 @@ pub enum Job {
         /// Whether each balance of the book is checked against its vouchers and sessions.
         audits: bool,
     },
+    /// Prints a signed key, which shows the pages of an account.
+    Key {
+        /// The file of the configuration, whose secret signs it.
+        config: Text,
+        /// The account, 1 to 253 octets.
+        account: Octets,
+        /// The last second of the key, since 1970.
+        until: u64,
+    },
     /// Keeps the book of these files: what is done with it.
     Book(Paths, BookJob),
 }
@@ -69,6 +78,11 @@ impl Drop for Job {
                 database: _,
                 kept: _,
                 audits: _,
+            } => {}
+            Job::Key {
+                config: _,
+                account: _,
+                until: _,
             } => {}
             Job::Book(_, _) => {}
         }

@@ -2,10 +2,10 @@
 ghost use Rattle.std.specs.Prelude.{◌≡◌, IfOk, IfSome, IfNone, Some, None, map};
 ghost use Rattle.clap.specs.Words.{all_of, first_of, rows_of, found_of};
 ghost use Rattle.clap.specs.Takes.{is_given as given_by_words};
-ghost use Rattle.acct_program_args.specs.Orders.{IsFlag, IsNumber, IsOldest};
+ghost use Rattle.acct_program_args.specs.Orders.{IsAccount, IsFlag, IsNumber, IsOldest};
 
 use crate::option_limits::{LAST_PORT, MOST_DAYS};
-use acct_model::{Text, number_up_to};
+use acct_model::{Octets, Text, is_account, number_up_to, unshow};
 use clap::ArgMatches;
 use clap::parser::ValueSource;
 use std::alloc::{AllocError, Global};
@@ -59,6 +59,23 @@ pub fn number_option(options: &ArgMatches<'_>, id: &str, most: u64) -> Option<u6
     let text = options.get_str(id)?;
     let number = number_up_to(text, most)?;
     if number == 0 { None } else { Some(number) }
+}
+
+/// The account that is named, percent-decoded, if it has 1 to 253 octets.
+pub fn account_option(alloc: Global, options: &ArgMatches<'_>) -> Result<Option<Octets>, AllocError>
+    ensures { IfOk result (λ account. IfSome account (IsAccount (rows_of (found_of options.now)))) }
+{
+    let Some(text) = options.get_str("account") else {
+        return Ok(None);
+    };
+    let Ok(octets) = unshow(alloc, text) else {
+        return Err(AllocError);
+    };
+    if is_account(&octets) {
+        Ok(Some(Octets { octets }))
+    } else {
+        Ok(None)
+    }
 }
 
 /// The port of an option, if it has one.

@@ -9,9 +9,9 @@ use crate::commands::{PROGRAM, command_line};
 use crate::exports::export_named;
 use crate::forward_options::carrying_of;
 use crate::job::{BookJob, Export, Job, KeptNames, Order, Paths};
-use crate::options::{flag_option, text_option};
+use crate::options::{account_option, flag_option, number_option, text_option};
 use crate::serve_options::serving_of;
-use acct_model::Text;
+use acct_model::{LAST_MOMENT, Text};
 use clap::error::ErrorKind;
 use clap::{ArgMatches, Command, Error};
 use std::alloc::{AllocError, Global};
@@ -51,6 +51,9 @@ fn asked(alloc: Global, name: &str, options: &ArgMatches<'_>) -> Result<Option<J
     let Some(config) = config else {
         return Ok(None);
     };
+    if name == "key" {
+        return asked_of_key(alloc, config, options);
+    }
     let database = text_option(alloc, options, "db")?;
     if name == "check" {
         return asked_to_check(alloc, config, database, options);
@@ -60,6 +63,29 @@ fn asked(alloc: Global, name: &str, options: &ArgMatches<'_>) -> Result<Option<J
     };
     match asked_of_book(alloc, name, options)? {
         Some(job) => Ok(Some(Job::Book(Paths { config, database }, job))),
+        None => Ok(None),
+    }
+}
+
+// What the options of `key` ask for, if they name an account of 1 to 253 octets.
+fn asked_of_key(
+    alloc: Global,
+    config: Text,
+    options: &ArgMatches<'_>,
+) -> Result<Option<Job>, AllocError>
+    requires { first_of (codes "config") (rows_of (found_of options.now)) ≡ Some config }
+    ensures { IfOk result (λ job. IfSome job
+        (WordsAskFor (codes "key") (rows_of (found_of options.now)))) }
+{
+    let Some(account) = account_option(alloc, options)? else {
+        return Ok(None);
+    };
+    match number_option(options, "until", LAST_MOMENT) {
+        Some(until) => Ok(Some(Job::Key {
+            config,
+            account,
+            until,
+        })),
         None => Ok(None),
     }
 }

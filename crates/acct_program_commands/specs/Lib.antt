@@ -20,6 +20,7 @@ pub mod Puts
 pub mod RoundStates
 pub mod Rounds
 pub mod Sights
+pub mod SignedKeys
 pub mod Survey
 pub mod Tally
 pub mod Told

@@ -8,6 +8,7 @@ use Rattle.acct_site.specs.declared.config.Config.{Config}
 use Rattle.acct_service.specs.Told.{Grows}
 use Rattle.acct_program_commands.specs.Checks.{IsRead}
 use Rattle.acct_program_commands.specs.Endings.{fault_text}
+use Rattle.acct_program_commands.specs.Puts.{WasSeen}
 use Rattle.acct_program_commands.specs.Sights.{Reading, Sight, Poll}
 use Rattle.acct_program_commands.specs.declared.fault.Fault.{Fault}
 use Rattle.acct_program_commands.specs.declared.new_site.Sizes.{Sizes}
@@ -47,12 +48,12 @@ abbrev pub Takes : List Plan → Sight → Option Config → Type 0
 Takes plans None gave = gave ≡ None
 Takes plans (Some reading) gave = (is_current : Bool) × IsTaken plans reading gave is_current
 
--- one more poll, at this moment, from which this was taken
-abbrev pub PollsAndTakes : ℕ → List Plan → Option (List Poll) → Option Config → Option (List Poll)
-    → Type 0
-PollsAndTakes moment plans old gave new =
+-- one more poll of a text, at this moment, from which this was taken
+abbrev pub PollsAndTakes : ℕ → List Plan → Option (List ℕ) → Option (List Poll) → Option Config
+    → Option (List Poll) → Type 0
+PollsAndTakes moment plans file old gave new =
     (sight : Sight) × Grows old (record { moment = moment; sight = sight } ∷ []) new
-    × Takes plans sight gave
+    × WasSeen file sight × Takes plans sight gave
 
 -- the first list has a plan that the second one does not have
 abbrev pub HasBeyond : List Plan → List Plan → Plan → Type 0

@@ -1,6 +1,5 @@
 -- What a server does between slices of turns.
-use Rattle.std.specs.Prelude.{◌≡◌, ℕ, Bool, List, [], ◌∷◌, Option, Some, None}
-use Rattle.std.specs.declared.cell.Cell.{Cell}
+use Rattle.std.specs.Prelude.{◌≡◌, ℕ, Bool, false, List, [], ◌∷◌, Option, Some, None}
 use Rattle.acct_model.specs.declared.plan.Plan.{Plan}
 use Rattle.acct_site.specs.declared.config.Config.{Config}
 use Rattle.acct_service.specs.Told.{Grows}
@@ -13,15 +12,15 @@ use Rattle.acct_program_commands.specs.declared.balances_file.KeptBalances.{Kept
 use Rattle.acct_program_commands.specs.declared.book_names.BookNames.{BookNames}
 use Rattle.acct_program_commands.specs.declared.fresh_file.FreshFile.{FreshFile}
 
--- What a round goes on from: what the polls of the text and the clock have shown, the file of
--- balances, if there is one, and what is known of the book's names, if they are looked at.
+-- What a round goes on from: the file of the text, if it is in one, what its polls and the clock have
+-- shown, the file of balances, if there is one, and what is known of the book's names, if they are
+-- looked at.
 pub record RoundState : Type 0 where
+  pub file : Option (List ℕ)
   pub polls : Option (List Poll)
   pub moments : Option (List ℕ)
   pub balances : Option FreshFile
   pub names : Option NamesSeen
-  -- the flag that is set while one of these leads elsewhere
-  pub away : Cell Bool
 
 abbrev pub file_of : {R : Type 0} → Option (KeptBalances R) → Option FreshFile
 file_of None = None
@@ -30,6 +29,11 @@ file_of (Some kept) = Some kept.file
 abbrev pub names_of : {R : Type 0} → Option (BookNames R) → Option NamesSeen
 names_of None = None
 names_of (Some names) = Some (seen_of names)
+
+-- one of these is known to lead elsewhere
+abbrev pub are_away : Option NamesSeen → Bool
+are_away None = false
+are_away (Some names) = names.is_away
 
 -- the book's names were looked at at this moment, if they are to be
 abbrev pub LooksAt : ℕ → Option NamesSeen → Option NamesSeen → Type 0
@@ -53,5 +57,5 @@ pub record GoesRound (IsPut : List ℕ → Type 0) (plans : List Plan) (old : Ro
   pub reads : Grows old.moments (moment ∷ []) new.moments
   pub keeps : KeepsAt IsPut moment old.balances new.balances
   pub looks : LooksAt moment old.names new.names
-  pub alike : new.away ≡ old.away
-  pub takes : PollsAndTakes moment plans old.polls gave new.polls
+  pub same : new.file ≡ old.file
+  pub takes : PollsAndTakes moment plans old.file old.polls gave new.polls

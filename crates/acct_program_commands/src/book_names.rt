@@ -63,6 +63,13 @@ impl<'r, R: ReadsFiles> BookNames<'r, R> {
         Ok(names)
     }
 
+    /// Whether one leads elsewhere, as far as is known.
+    pub fn is_away(&self) -> bool
+        ensures { result ≡ self.now.is_away }
+    {
+        self.is_away
+    }
+
     /// Looks where they lead, once in a second of the clock, and notes in the gauges whether one
     /// leads elsewhere. If the next look finds that, too, or finds them back, a line says so. A look
     /// that fails tells nothing, and all stays as it was.

@@ -1,12 +1,12 @@
 //! What the program's server does between slices of turns. It writes the file of balances, if that
 //! is due, looks where the names of its book lead, and takes another configuration, if its text
-//! changed.
+//! changed. While one of these names leads elsewhere, its turns are silent.
 ghost use Rattle.std.specs.Prelude.{◌≡◌, ⊤, IfSome, false};
 ghost use Rattle.acct_book.specs.Step.{OnlyLooks};
 ghost use Rattle.acct_program_commands.specs.NewSite.{PollsAndTakes};
 ghost use Rattle.acct_program_commands.specs.Placed.{IsPut, PutsBalances};
 ghost use Rattle.acct_program_commands.specs.Rounds.{GoesRound, KeepsAt, LooksAt};
-ghost use Rattle.acct_program_commands.specs.Rounds.{file_of, names_of};
+ghost use Rattle.acct_program_commands.specs.Rounds.{are_away, file_of, names_of};
 ghost use Rattle.acct_program_commands.specs.RoundStates.{state_of};
 
 use crate::balances_file::KeptBalances;
@@ -77,13 +77,15 @@ impl<'r, R: ReplacesFiles, S: SiteSource + Drop, E: Write + Drop> FileRounds<'r,
 impl<'r, R: ReplacesFiles, S: SiteSource + Drop, E: Write + Drop> Rounds
     for FileRounds<'r, R, S, E> {
     ghost goes = { λ old config gave new. GoesRound (λ name. IsPut (R.was_put name)) config.plans
-        (state_of S.polls S.moments old) gave (state_of S.polls S.moments new) };
+        (state_of S.file S.polls S.moments old) gave (state_of S.file S.polls S.moments new) };
 
     ghost shows = { λ old config content gave new.
         GoesRound (λ name. PutsBalances (R.was_put name) content ⊤) config.plans
-        (state_of S.polls S.moments old) gave (state_of S.polls S.moments new) };
+        (state_of S.file S.polls S.moments old) gave (state_of S.file S.polls S.moments new) };
 
     ghost is_over = { λ _. false };
+
+    ghost is_silent = { λ rounds. are_away (names_of rounds.names) };
 
     fn go_round<B: Book>(
         &mut self,
@@ -117,6 +119,14 @@ impl<'r, R: ReplacesFiles, S: SiteSource + Drop, E: Write + Drop> Rounds
     fn is_over(&self) -> bool {
         false
     }
+
+    // While a name of the book leads elsewhere, nobody is answered.
+    fn is_silent(&self) -> bool {
+        match &self.names {
+            Some(names) => names.is_away(),
+            None => false,
+        }
+    }
 }
 
 /// Writes the file of balances, if there is one, and if it is due at a moment.
@@ -147,8 +157,9 @@ fn take_polled<S: SiteSource, E: Write>(
     gauges: &Gauges,
     errors: &mut E,
 ) -> Option<Config>
-    ensures takes { PollsAndTakes moment plans.now (S.polls source.old) result
+    ensures takes { PollsAndTakes moment plans.now (S.file source.old) (S.polls source.old) result
         (S.polls source.new) }
+    ensures same { S.file source.new ≡ S.file source.old }
     ensures unread { S.moments source.new ≡ S.moments source.old }
     ensures plans { IfSome result (λ site. site.plans ≡ plans.now) }
 {

@@ -2,7 +2,6 @@
 //! its book is where its name leads, and what its file of balances has.
 //!
 //! The parts of a server that know these note them here. The file of counts is made from them.
-ghost use Rattle.std.specs.Prelude.{◌≡◌};
 
 use std::cell::Cell;
 
@@ -53,13 +52,6 @@ impl Gauges {
     /// Whether a name of the book leads to another file than the one that is open, or to none.
     pub fn is_away(&self) -> bool {
         self.is_away.get()
-    }
-
-    /// The same, for those who have to know it in each turn.
-    pub fn away(&self) -> &Cell<bool>
-        ensures { result.now ≡ self.now.is_away }
-    {
-        &self.is_away
     }
 
     /// The last write of the file of balances, if it was written.

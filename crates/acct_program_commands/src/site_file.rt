@@ -1,6 +1,7 @@
 //! The file of the configuration, which the server polls while it runs.
-ghost use Rattle.std.specs.Prelude.{◌≡◌, ◌∷◌, ◌<◌, ◌^◌, [], None, IsSome, IsTrue};
+ghost use Rattle.std.specs.Prelude.{◌≡◌, ◌∷◌, ◌<◌, ◌^◌, [], None, IsSome, IsTrue, Some};
 ghost use Rattle.acct_service.specs.Told.{Grows};
+ghost use Rattle.acct_program_commands.specs.Puts.{WasSeen};
 ghost use Rattle.acct_program_commands.specs.Sights.{Poll};
 ghost use Rattle.acct_program_commands.specs.Looks.{LooksOnce};
 
@@ -81,6 +82,8 @@ impl<'a, R: ReadsFiles + Clock> SiteSource for SiteFile<'a, R> {
 
     ghost moments = { λ _. None };
 
+    ghost file = { λ source. Some source.name.now };
+
     fn moment(&mut self) -> u64
         ensures bounded { result < 2 ^ 53 }
         ensures kept { self.new ≡ self.old }
@@ -91,6 +94,7 @@ impl<'a, R: ReadsFiles + Clock> SiteSource for SiteFile<'a, R> {
     fn look(&mut self, alloc: Global, moment: u64) -> Option<Result<Octets, InputFault>>
         ensures told { Grows {C = Poll} None (record { moment = moment; sight = result } ∷ []) None }
         ensures looked { LooksOnce moment self.old self.new (IsSome result) }
+        ensures seen { WasSeen (Some self.old.name.now) result }
     {
         if !self.is_changed(moment) {
             return None;

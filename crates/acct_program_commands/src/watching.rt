@@ -8,7 +8,7 @@
 //! 3. The moment of a turn is that of its event, or the clock's if it has none. The clock is not
 //!    read if nothing is logged or written.
 //! 4. A line that cannot be written is lost, and changes nothing else.
-ghost use Rattle.std.specs.Prelude.{◌≡◌, ◌++◌, ◌∷◌, [], ℕ, Option, OnOk, replicate, None, false};
+ghost use Rattle.std.specs.Prelude.{◌≡◌, ◌++◌, ◌∷◌, [], ℕ, Option, OnOk, replicate, None, IfOk, true, false};
 ghost use Rattle.std.specs.Prelude.{◌<◌, ◌^◌, ◌+◌, ◌-◌, is_ok};
 ghost use Rattle.std.specs.Io.KnownBytes.{Appends};
 ghost use Rattle.acct_service.specs.Told.{CountsFault, Grows, given, sent, drop_told};
@@ -279,18 +279,19 @@ impl<'r, R: Clock + ReplacesFiles, X: Exchange, W: Write, E: Write + Drop> Excha
 
     ghost told = { λ w. X.told w.exchange };
 
-    fn next(&mut self) -> Result<Option<Event>, Fault>
+    fn next(&mut self, is_silent: bool) -> Result<Option<Event>, Fault>
         requires turns { X.turn_count self.old.exchange < 2 ^ 64 - 1 }
         requires failures { X.failure_count self.old.exchange < 2 ^ 64 - 1 }
         ensures turns { X.turn_count self.new.exchange ≡ X.turn_count self.old.exchange + 1 }
         ensures failures { CountsFault result (X.failure_count self.old.exchange)
             (X.failure_count self.new.exchange) }
+        ensures silent { is_silent ≡ true → IfOk result (λ event. event ≡ None) }
         ensures told { Grows (X.told self.old.exchange) (given result) (X.told self.new.exchange) }
         ensures counts { CountsAs (with_turn result) self.old.status self.new.status }
         ensures watches { (moment : ℕ) × IsMomentOf result moment
             × WatchesTurn result moment self.old.watch self.new.watch }
     {
-        let came = self.exchange.next();
+        let came = self.exchange.next(is_silent);
         if self.watch.is_none() && self.status.is_none() {
             return came;
         }

@@ -20,6 +20,8 @@ impl SiteSource for Unchanged {
 
     ghost moments = { λ _. None };
 
+    ghost file = { λ _. None };
+
     fn moment(&mut self) -> u64 {
         1000
     }

@@ -80,7 +80,7 @@ fn first_wrong(rt: &HostRuntime, book: &str, rows: &[Row]) -> Result<Option<u64>
         make(rt, *done)?;
         told.truncate(0);
         names.look(*moment, &gauges, &mut told);
-        let is_noted = gauges.is_away() == *is_away && gauges.away().get() == *is_away;
+        let is_noted = gauges.is_away() == *is_away && names.is_away() == *is_away;
         if !is_noted || told.as_slice() != wanted.as_bytes() {
             return Ok(Some(*moment));
         }

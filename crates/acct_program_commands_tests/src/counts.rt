@@ -71,7 +71,7 @@ fn comes<X: Exchange>(exchange: &mut X) -> bool {
     if exchange.turns() == u64::MAX || exchange.failures() == u64::MAX {
         return false;
     }
-    matches!(exchange.next(), Ok(Some(_)))
+    matches!(exchange.next(false), Ok(Some(_)))
 }
 
 // Whether the file is written anew at each turn: it has what came before.

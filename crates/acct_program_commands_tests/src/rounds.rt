@@ -39,6 +39,8 @@ impl<'c> SiteSource for Said<'c> {
 
     ghost moments = { λ _. None };
 
+    ghost file = { λ _. None };
+
     fn moment(&mut self) -> u64 {
         moment_of(self.clock)
     }

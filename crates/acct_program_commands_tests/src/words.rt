@@ -84,7 +84,7 @@ fn reads_command_lines(rt: HostRuntime) -> Result<(), Fail> {
 // also its addresses, the desk's, both ports, turns, syncs, what it prints, the two files, and how
 // many days old a report may be. A plus if more is printed of a fault, `loses` if a damaged log is
 // no fault. None if they name no job.
-static ORDERS: [(&str, Option<&str>); 71] = [
+static ORDERS: [(&str, Option<&str>); 81] = [
     ("feed", Some("feed none")),
     ("feed --config a", Some("feed a")),
     ("feed --explain", Some("feed none +")),
@@ -161,6 +161,25 @@ static ORDERS: [(&str, Option<&str>); 71] = [
         None,
     ),
     ("forward --config a --db b --at 9007199254740992", None),
+    (
+        "key --config a --until 1000 al",
+        Some("key a [97, 108] 1000"),
+    ),
+    (
+        "key --until 9007199254740991 %00%C3x --config a --explain",
+        Some("key a [0, 195, 120] 9007199254740991 +"),
+    ),
+    ("key --until 1000 al", None),
+    ("key --config a al", None),
+    ("key --config a --until 1000", None),
+    ("key --config a --until 0 al", None),
+    ("key --config a --until 9007199254740992 al", None),
+    ("key --config a --until 1000 al bo", None),
+    ("key --config a --until 1000 --db b al", None),
+    (
+        "key --config a --until 1000 --lose-damaged-commits al",
+        None,
+    ),
     (
         "serve --config a --db b",
         Some(
@@ -285,6 +304,18 @@ fn asks_for_what_the_words_say(rt: HostRuntime) -> Result<(), Fail> {
     Ok(())
 }
 
+// An account of a key has 1 to 253 octets.
+#[test]
+fn an_account_of_a_key_has_its_length(rt: HostRuntime) -> Result<(), Fail> {
+    let alloc = rt.alloc();
+    for (length, is_taken) in [(0, false), (1, true), (253, true), (254, false)] {
+        let mut words = words_of(alloc, &["radacctd", "key", "--config", "a", "--until", "7"])?;
+        words.push("%61".repeat(alloc, length)?)?;
+        assert!(rt; job_of(alloc, words).is_ok() == is_taken);
+    }
+    Ok(())
+}
+
 // Whether arguments request this.
 fn asks_for(alloc: Global, words: &str, wanted: Option<&str>) -> Result<bool, Fail> {
     match job_of(alloc, split(alloc, words)?) {
@@ -320,6 +351,14 @@ fn shown_job(alloc: Global, job: &Job) -> Result<String, Fail> {
             kept,
             audits,
         } => shown_check(alloc, config, database, kept, *audits),
+        Job::Key {
+            config,
+            account,
+            until,
+        } => {
+            let (config, account) = (config.as_str(), account.as_slice());
+            Ok(format!(in alloc; "key {config} {account:?} {until}")?)
+        }
         Job::Book(paths, job) => shown_book_job(alloc, paths, job),
     }
 }

@@ -2,8 +2,7 @@
 use Rattle.std.proofs.Common.{◌≡◌, ◌∙◌, ◌<◌, ℕ, List, inl, inr, Result, Ok, Err, sym, ap, subst}
 use Rattle.std.proofs.Common.{refl}
 use Rattle.std.proofs.Math.Logic.{∥∥₁_elim}
-use Rattle.std.specs.declared.cell.Cell.{Cell}
-use Rattle.std.specs.Prelude.{Bool, Option, None}
+use Rattle.std.specs.Prelude.{Bool, Option, None, Some}
 use Rattle.sqlite_disk.specs.declared.Disk as disk
 use Rattle.sqlite_disk.specs.declared.Files.{Files}
 use Rattle.sqlite_wal.specs.Recovery.{Image}
@@ -42,15 +41,15 @@ no_fault done told is = cc
 
 module _ {D : Type 0} {g : disk.Ghosts D} {X : Type 0} (image : Image)
     (b : book.Ghosts (Held (FileStore D g))) (x : exchange.Ghosts X)
-    (IsBound : Listening → Cell Bool → X → Type 0)
+    (IsBound : Listening → X → Type 0)
     (right : ServesRightly b x WasPut IsBound)
     (over : (one : Held (FileStore D g))
     → IsBookOver over_files b.content b.is_sound b.is_open b.left one)
-    (printed after : Option (List ℕ)) (name : List ℕ) (serving : Serving) where
+    (printed after : Option (List ℕ)) (file name : List ℕ) (serving : Serving) where
   module _ (config : Config) (first last : Held (FileStore D g)) where
     abbrev Afresh : X → Ended → Type 0
-    Afresh final ended = EndsAfresh b x WasPut (IsBound serving.listening) None None
-        name serving config first last final printed after ended
+    Afresh final ended = EndsAfresh b x WasPut (IsBound serving.listening) (Some file) None
+        None name serving config first last final printed after ended
 
     -- a book that is sound in the end was sound as the server began
     begun_sound : (final : X) (ended : Ended) (it : Afresh final ended) → b.is_sound last
@@ -62,7 +61,7 @@ module _ {D : Type 0} {g : disk.Ghosts D} {X : Type 0} (image : Image)
         subst (λ (one : Held (FileStore D g)). b.is_sound one) same sound
 
     was_sound : (result : Result Status Fault)
-        → Serves image b x IsBound printed after name serving config result first last
+        → Serves image b x IsBound printed after file name serving config result first last
         → b.is_sound last → b.is_sound first
     was_sound result (inl (told, is, why, same, unprinted)) sound =
         subst (λ (one : Held (FileStore D g)). b.is_sound one) same sound
@@ -91,7 +90,7 @@ module _ {D : Type 0} {g : disk.Ghosts D} {X : Type 0} (image : Image)
     ended_open status final how.NotBegun is it more sound = absurd (no_fault _ _ is)
 
     is_open : (status : Status)
-        → Serves image b x IsBound printed after name serving config (Ok status) first last
+        → Serves image b x IsBound printed after file name serving config (Ok status) first last
         → 0 < serving.turns → b.is_sound last → b.is_open last
     is_open status (inl (told, is, why, same, unprinted)) more sound = absurd (no_fault _ _ is)
     is_open status (inr (ended, is, (final, it))) more sound =
@@ -100,8 +99,8 @@ module _ {D : Type 0} {g : disk.Ghosts D} {X : Type 0} (image : Image)
   -- a run from the book that the files held
   ran : (config : Config) (result : Result Status Fault) (last : Held (FileStore D g))
       → Worked image config.plans
-      (Serves image b x IsBound printed after name serving config result) last
-      → RanRightly image b x IsBound printed after name serving config result last
+      (Serves image b x IsBound printed after file name serving config result) last
+      → RanRightly image b x IsBound printed after file name serving config result last
   ran config result last worked = record {
     first = worked.first;
     adopted = worked.adopted;
@@ -113,15 +112,15 @@ module _ {D : Type 0} {g : disk.Ghosts D} {X : Type 0} (image : Image)
         let same = (over first).content_is
         ∙ ap content_in_tables (∥∥₁_elim held.holds (Trees-set _ _)
         (book.held.holds held.held)) in
-        right None None name serving config printed after result first last before worked.did
+        right (Some file) None None name serving config printed after result first last before worked.did
         ((over first).open_is.1 book.settled)
         (subst (λ c. Stands config.plans c before) (sym same) held.stands) sound;
   }
 
   -- a run whose book was closed into these files
   closed : (config : Config) (ended : Status) (files : Files D)
-      → Closes image config.plans (Serves image b x IsBound printed after name serving config)
-      ended files → ClosedRightly image b x IsBound printed after name serving config ended files
+      → Closes image config.plans (Serves image b x IsBound printed after file name serving config)
+      ended files → ClosedRightly image b x IsBound printed after file name serving config ended files
   closed config ended files closes =
       let last = closes.last in
       let it = ran config (Ok ended) last closes.worked in
@@ -132,7 +131,7 @@ module _ {D : Type 0} {g : disk.Ghosts D} {X : Type 0} (image : Image)
             let copied = closes.copied clean in
             let sound = (over last).sound_is.1 copied.was_clean in
             let opened = is_open config it.first last ended it.run more sound in
-            let so_far = accepted before (visits_by image b x IsBound printed after name serving
+            let so_far = accepted before (visits_by image b x IsBound printed after file name serving
             config (Ok ended) it.first last it.run) in
             let same = (over last).content_is
             ∙ ap (λ (d : Database). content_in_tables d.trees) ((over last).open_is.0 opened).1 in
@@ -153,17 +152,17 @@ module _ {D : Type 0} {g : disk.Ghosts D} {X : Type 0} (image : Image)
       }
 
   -- a run that a fault ended
-  failed_at : (file : List ℕ) (config : Config) → ReadsConfig file (Ok config)
+  failed_at : (config : Config) → ReadsConfig file (Ok config)
       → (told : Fault) (rest : Left D g) (ended : Result Status Fault) → ended ≡ Err told
-      → FailsAt image config.plans (Serves image b x IsBound printed after name serving config)
-      told rest → EndsRightly image b x IsBound printed after name serving file ended rest
-  failed_at file config read told left.Nothing ended is at = (told, is)
-  failed_at file config read told (left.Unopened it) ended is at = (told, is)
-  failed_at file config read told (left.Open last) ended is (inl other) =
+      → FailsAt image config.plans (Serves image b x IsBound printed after file name serving config)
+      told rest → EndsRightly image b x IsBound printed after file name serving ended rest
+  failed_at config read told left.Nothing ended is at = (told, is)
+  failed_at config read told (left.Unopened it) ended is at = (told, is)
+  failed_at config read told (left.Open last) ended is (inl other) =
       (config, read, told, is, inl other)
-  failed_at file config read told (left.Open last) ended is (inr worked) =
+  failed_at config read told (left.Open last) ended is (inr worked) =
       (config, read, told, is, inr (ran config (Err told) last worked))
-  failed_at file config read told (left.Unclosed rest) ended is at = (
+  failed_at config read told (left.Unclosed rest) ended is at = (
     config,
     read,
     record {
@@ -173,33 +172,33 @@ module _ {D : Type 0} {g : disk.Ghosts D} {X : Type 0} (image : Image)
       closed = at.unclosed.1;
     },
   )
-  failed_at file config read told (left.Closed files) ended is at = absurd at
+  failed_at config read told (left.Closed files) ended is at = absurd at
 
 pub files_right : {D : Type 0} {g : disk.Ghosts D} {X : Type 0} (image : Image)
     (b : book.Ghosts (Held (FileStore D g))) (x : exchange.Ghosts X)
-    (IsBound : Listening → Cell Bool → X → Type 0)
+    (IsBound : Listening → X → Type 0)
     → ServesRightly b x WasPut IsBound
     → ((one : Held (FileStore D g))
     → IsBookOver over_files b.content b.is_sound b.is_open b.left one)
     → FilesAreRight image b x IsBound
 files_right {D} {g} image b x IsBound right over text printed after file name serving ended rest
     (inl keeps) =
-    subst (EndsRightly image b x IsBound printed after name serving file ended) (sym keeps.nothing)
+    subst (EndsRightly image b x IsBound printed after file name serving ended) (sym keeps.nothing)
     (keeps.told, keeps.ended_is)
 files_right {D} {g} image b x IsBound right over text printed after file name serving ended rest
     (inr (inl (status, files, is, rest_is, (config, read, closes)))) =
-    subst (EndsRightly image b x IsBound printed after name serving file ended) (sym rest_is) (
+    subst (EndsRightly image b x IsBound printed after file name serving ended) (sym rest_is) (
       config,
       read,
       status,
       is,
-      closed image b x IsBound right over printed after name serving config status files closes,
+      closed image b x IsBound right over printed after file name serving config status files closes,
     )
 files_right {D} {g} image b x IsBound right over text printed after file name serving ended rest
     (inr (inr (told, is, (inl none)))) =
-    subst (EndsRightly image b x IsBound printed after name serving file ended) (sym none.nothing)
+    subst (EndsRightly image b x IsBound printed after file name serving ended) (sym none.nothing)
     (told, is)
 files_right {D} {g} image b x IsBound right over text printed after file name serving ended rest
     (inr (inr (told, is, (inr (config, read, fails))))) =
-    failed_at image b x IsBound right over printed after name serving file config read told rest
+    failed_at image b x IsBound right over printed after file name serving config read told rest
     ended is fails.at

@@ -3,7 +3,6 @@
 use Rattle.std.specs.Prelude.{◌≡◌, ◌⊎◌, ◌<◌, ◌^◌, ℕ, List, [], ◌∷◌, ◌++◌, Option, Some, None}
 use Rattle.std.specs.Prelude.{Result, Ok, Err, IfErr, IfSome, Bool, true, codes, decimal}
 use Rattle.std.specs.Io.KnownBytes.{Appends}
-use Rattle.std.specs.declared.cell.Cell.{Cell}
 use Rattle.sqlite_disk.specs.declared.Disk as disk
 use Rattle.sqlite_disk.specs.declared.Files.{Files}
 use Rattle.sqlite_wal.specs.Recovery.{Image}
@@ -35,6 +34,7 @@ use Rattle.acct_program_commands.specs.Exports.{IsExportFault, plans_text}
 use Rattle.acct_program_commands.specs.KeptNames.{NamesSome}
 use Rattle.acct_program_commands.specs.Imports.{Runs}
 use Rattle.acct_program_commands.specs.Puts.{WasPut}
+use Rattle.acct_program_commands.specs.SignedKeys.{PrintsKey}
 use Rattle.acct_program_commands.specs.Survey.{RunsForward}
 use Rattle.acct_program_serving.specs.Serving.{RunsServer}
 use Rattle.acct_program_commands.specs.declared.fault.Fault.{Fault}
@@ -295,14 +295,14 @@ module _ {D : Type 0} {g : disk.Ghosts D} where
   -- `text` is what standard input has, `before` and `after` what standard output had and has.
   -- `IsBound` says how an exchange is bound that listens where a server is to.
   module _ (image : Image) {X M : Type 0} (b : book.Ghosts (Held (FileStore D g)))
-      (x : exchange.Ghosts X) (IsBound : Listening → Cell Bool → X → Type 0) (m : book.Ghosts M)
+      (x : exchange.Ghosts X) (IsBound : Listening → X → Type 0) (m : book.Ghosts M)
       (text before after : Option (List ℕ)) where
     -- turns of a server over the book of this name, and an import at a moment, with a
     -- configuration
-    abbrev pub HasServed : List ℕ → Serving → Config → Result Status Fault
+    abbrev pub HasServed : List ℕ → List ℕ → Serving → Config → Result Status Fault
         → Held (FileStore D g) → Held (FileStore D g) → Type 0
-    HasServed name serving config =
-        RunsServer b x WasPut (IsBound serving.listening) None None name serving config
+    HasServed file name serving config =
+        RunsServer b x WasPut (IsBound serving.listening) (Some file) None None name serving config
         before after
 
     abbrev pub HasImported : ℕ → Config → Result Status Fault → Held (FileStore D g)
@@ -324,8 +324,8 @@ module _ {D : Type 0} {g : disk.Ghosts D} where
         (FailsToMakeNew image file has_sums) ended rest
     DoesBookJob file name (of_book.Serve serving) ended rest =
         KeepsOthers serving.telling.status serving.telling.balances before after ended rest
-        ⊎ ClosesOrFails (WorksAndCloses image file (HasServed name serving))
-        (FailsAtWork image file (HasServed name serving)) ended rest
+        ⊎ ClosesOrFails (WorksAndCloses image file (HasServed file name serving))
+        (FailsAtWork image file (HasServed file name serving)) ended rest
     DoesBookJob file name of_book.Import ended rest = (moment : ℕ) × (moment < 2 ^ 53)
         × ClosesOrFails (WorksAndCloses image file (HasImported moment))
         (FailsAtWork image file (HasImported moment)) ended rest
@@ -351,5 +351,8 @@ module _ {D : Type 0} {g : disk.Ghosts D} where
     DoesJob (job.Check file database kept audits) ended rest =
         KeepsOthers kept.status kept.balances before after ended rest
         ⊎ ChecksOrAudits image file b before after audits database ended rest
+    DoesJob (job.Key file account until) ended rest =
+        PrintsKey file account until before after ended
+        × (rest ≡ left.Nothing)
     DoesJob (job.Book paths asked) ended rest =
         DoesBookJob paths.config paths.database asked ended rest

@@ -1,7 +1,6 @@
 -- The promise over one run of `serve` on the files of a book: however it ended, every balance is
 -- right, in the book that it left and in the files.
-use Rattle.std.specs.declared.cell.Cell.{Cell}
-use Rattle.std.specs.Prelude.{◌≡◌, ◌⊎◌, ◌<◌, ℕ, Bool, List, Option, None, Result, Ok, Err}
+use Rattle.std.specs.Prelude.{◌≡◌, ◌⊎◌, ◌<◌, ℕ, Bool, List, Option, None, Some, Result, Ok, Err}
 use Rattle.sqlite_disk.specs.declared.Disk as disk
 use Rattle.sqlite_disk.specs.declared.Files.{Files}
 use Rattle.sqlite_wal.specs.Files.{outcomes}
@@ -53,19 +52,20 @@ IsFoundNext g files image =
 
 module _ {D : Type 0} {g : disk.Ghosts D} {X : Type 0} (image : Image)
     (b : book.Ghosts (Held (FileStore D g))) (x : exchange.Ghosts X)
-    (IsBound : Listening → Cell Bool → X → Type 0) (printed after : Option (List ℕ))
-    (name : List ℕ) (serving : Serving) where
+    (IsBound : Listening → X → Type 0) (printed after : Option (List ℕ))
+    (file name : List ℕ) (serving : Serving) where
   -- a server over the book of this name ran this way
   abbrev pub Serves : Config → Result Status Fault → Held (FileStore D g) → Held (FileStore D g)
       → Type 0
   Serves config result first last = RunsServer b x WasPut (IsBound serving.listening)
-      None None name serving config printed after result first last
+      (Some file) None None name serving config printed after result first last
 
   -- its visits
   abbrev pub visits_by : (config : Config) (result : Result Status Fault)
       (first last : Held (FileStore D g)) → Serves config result first last → List Visit
   visits_by config result first last run = visits_of b x WasPut
-      (IsBound serving.listening) None None name serving config printed after first last result run
+      (IsBound serving.listening) (Some file) None None name serving config printed after first last
+      result run
 
   -- A server ran with this configuration from the book that the files held to this one. From each
   -- history for which that stood, every balance is right.
@@ -99,23 +99,23 @@ module _ {D : Type 0} {g : disk.Ghosts D} {X : Type 0} (image : Image)
   -- How it ended by the configuration of this name, by what is left of the files. A fault ended it
   -- before there was a book; or there was no book of these plans; or a fault ended its run, and the
   -- book is still open.
-  abbrev pub EndsRightly : List ℕ → Result Status Fault → Left D g → Type 0
-  EndsRightly file ended left.Nothing = (told : Fault) × (ended ≡ Err told)
-  EndsRightly file ended (left.Unopened it) = (told : Fault) × (ended ≡ Err told)
-  EndsRightly file ended (left.Open last) =
+  abbrev pub EndsRightly : Result Status Fault → Left D g → Type 0
+  EndsRightly ended left.Nothing = (told : Fault) × (ended ≡ Err told)
+  EndsRightly ended (left.Unopened it) = (told : Fault) × (ended ≡ Err told)
+  EndsRightly ended (left.Open last) =
       (config : Config) × ReadsConfig file (Ok config) × (told : Fault) × (ended ≡ Err told)
       × (IsOther image config.plans told last ⊎ RanRightly config (Err told) last)
-  EndsRightly file ended (left.Unclosed rest) =
+  EndsRightly ended (left.Unclosed rest) =
       (config : Config) × ReadsConfig file (Ok config) × UnclosedRightly config rest
-  EndsRightly file ended (left.Closed files) =
+  EndsRightly ended (left.Closed files) =
       (config : Config) × ReadsConfig file (Ok config) × (status : Status) × (ended ≡ Ok status)
       × ClosedRightly config status files
 
 -- So it is of each run of the command. A server has one kind of book: that of a script is not used.
 abbrev pub FilesAreRight : {D : Type 0} {g : disk.Ghosts D} {X : Type 0} → Image
     → book.Ghosts (Held (FileStore D g)) → exchange.Ghosts X
-    → (Listening → Cell Bool → X → Type 0) → Type 0
+    → (Listening → X → Type 0) → Type 0
 FilesAreRight {D} {g} image b x IsBound = (text printed after : Option (List ℕ))
     (file name : List ℕ) (serving : Serving) (ended : Result Status Fault) (rest : Left D g)
     → DoesBookJob image b x IsBound b text printed after file name (of_book.Serve serving) ended
-    rest → EndsRightly image b x IsBound printed after name serving file ended rest
+    rest → EndsRightly image b x IsBound printed after file name serving ended rest

@@ -3,10 +3,10 @@
 //! `export` and `plans --list` only read the book, and leave its files as they are. The other jobs
 //! that keep a book close it at their end.
 ghost use Rattle.std.specs.Prelude.{◌≢◌, ◌≡◌, ◌⊎◌, ℕ, Ok, Err, IfOk, IfErr};
-ghost use Rattle.std.specs.Prelude.{true, false, None, Some, IsSomeAnd, List, Option};
+ghost use Rattle.std.specs.Prelude.{true, false, None, Some, List, Option};
 ghost use Rattle.sqlite_wal.specs.Files.{image_at};
 ghost use Rattle.acct_site.specs.declared.config.Config.{Config};
-ghost use Rattle.acct_program_args.specs.Orders.{HasBounds, IsBounded};
+ghost use Rattle.acct_program_args.specs.Orders.{AreBounded, HasBounds, IsBounded};
 ghost use Rattle.acct_program_commands.specs.Endings.{ended_status};
 ghost use Rattle.acct_program_jobs.specs.Commands.{Worked, WritesOut, FailsToExport, refused};
 ghost use Rattle.acct_book.specs.Step.{Looks};
@@ -34,7 +34,7 @@ use acct_net::Sockets;
 use acct_program::Status;
 use acct_program_args::{BookJob, Export, Job, Order, Serving, Telling};
 use acct_program_commands::{
-    Fault, ServerFiles, end, keep_others, read_clock, read_config, run_export,
+    Fault, ServerFiles, end, keep_others, read_clock, read_config, run_export, run_key,
 };
 use acct_program_serving::Errors;
 use acct_reads::ReadsFiles;
@@ -101,9 +101,7 @@ pub fn carry_out<S: Start, I: Read + Drop, W: Write + Drop, E: Write + Drop, F: 
     requires { HasBounds order.now.job }
     ensures status { result.0 ≡ ended_status result.1.ended }
     ensures does { DoesJob (image_at S.Start) ⟦<SqlBook<FileStore<FileFrom<S>>> as Book>⟧
-        ⟦<Sockets<'static, HostRuntime> as Exchange>⟧
-        (λ listening away s. IsBoundTo listening s.event_loop.datagrams.sockets.items
-        s.event_loop.desk.door.address s.event_loop.desk.door.port × IsSomeAnd s.silenced (λ flag. flag.now ≡ away))
+        ⟦<Sockets<'static, HostRuntime> as Exchange>⟧ IsBoundTo
         ⟦<SqlBook<MemStore> as Book>⟧
         (I.remaining streams.input) (W.contents streams.output)
         (text_of W.contents result.1.output) order.now.job result.1.ended result.1.left }
@@ -113,7 +111,13 @@ pub fn carry_out<S: Start, I: Read + Drop, W: Write + Drop, E: Write + Drop, F: 
         mut output,
         errors,
     } = streams;
+    let alloc = runtime.alloc();
     let outcome = match &order.job {
+        Job::Book(paths, job) => {
+            let files = BookFile::of(paths, order.loses_commits);
+            let streams = Streams::new(input, output, errors);
+            do_book_job(runtime, files, job, streams, start)
+        }
         Job::Feed { config } => {
             let ended = feed(runtime, config.as_ref(), input, &mut output);
             without_book(ended, output)
@@ -127,32 +131,56 @@ pub fn carry_out<S: Start, I: Read + Drop, W: Write + Drop, E: Write + Drop, F: 
             let checking = Checking::of(config, database.as_ref(), *audits, order.loses_commits);
             check(runtime, checking, kept, output, errors, start)
         }
-        Job::Book(paths, job) => {
-            let files = BookFile::of(paths, order.loses_commits);
-            match job {
-                BookJob::Init { has_sums } => {
-                    make(runtime, Making::new(*has_sums), files, output, start)
-                }
-                BookJob::Serve(serving) => {
-                    serve_files(runtime, files, serving, output, errors, start)
-                }
-                BookJob::Import => {
-                    let import = Import::at(moment_of(runtime), input);
-                    work_on(runtime, files, import, output, start)
-                }
-                BookJob::Export(what) => export(runtime, files, *what, output, start),
-                BookJob::Migrate => make(runtime, Making::Migrated, files, output, start),
-                BookJob::AddPlans => make(runtime, Making::Extended, files, output, start),
-                BookJob::ListPlans => list_plans(runtime, files, output, start),
-                BookJob::Forward(carrying) => {
-                    let clock = read_clock(runtime, files.database);
-                    let forward = Forward::by(clock, carrying, errors);
-                    work_on(runtime, files, forward, output, start)
-                }
-            }
+        Job::Key {
+            config,
+            account,
+            until,
+        } => {
+            let ended = run_key(runtime, alloc, config, account, *until, &mut output);
+            without_book(ended, output)
         }
     };
     told(faults, outcome)
+}
+
+// Does a job that keeps a book, over the files of the book.
+fn do_book_job<S: Start, I: Read + Drop, W: Write + Drop, E: Write + Drop>(
+    runtime: &HostRuntime,
+    files: BookFile<'_>,
+    job: &BookJob,
+    streams: Streams<I, W, E>,
+    start: S,
+) -> Outcome<W, FileFrom<S>>
+    requires { AreBounded job.now }
+    ensures other { IfOk result.ended (λ status. status ≢ Status.BadCommandLine) }
+    ensures does { DoesBookJob (image_at S.Start) ⟦<SqlBook<FileStore<FileFrom<S>>> as Book>⟧
+        ⟦<Sockets<'static, HostRuntime> as Exchange>⟧ IsBoundTo
+        ⟦<SqlBook<MemStore> as Book>⟧
+        (I.remaining streams.input) (W.contents streams.output) (text_of W.contents result.output)
+        files.entry.config.now files.entry.database.now job.now result.ended result.left }
+{
+    let Streams {
+        input,
+        output,
+        errors,
+    } = streams;
+    match job {
+        BookJob::Init { has_sums } => make(runtime, Making::new(*has_sums), files, output, start),
+        BookJob::Serve(serving) => serve_files(runtime, files, serving, output, errors, start),
+        BookJob::Import => {
+            let import = Import::at(moment_of(runtime), input);
+            work_on(runtime, files, import, output, start)
+        }
+        BookJob::Export(what) => export(runtime, files, *what, output, start),
+        BookJob::Migrate => make(runtime, Making::Migrated, files, output, start),
+        BookJob::AddPlans => make(runtime, Making::Extended, files, output, start),
+        BookJob::ListPlans => list_plans(runtime, files, output, start),
+        BookJob::Forward(carrying) => {
+            let clock = read_clock(runtime, files.database);
+            let forward = Forward::by(clock, carrying, errors);
+            work_on(runtime, files, forward, output, start)
+        }
+    }
 }
 
 /// Serves the book of a file, as `carry_out` does, but prints no fault. A program that assumes
@@ -170,9 +198,7 @@ pub fn serve_files<S: Start, W: Write + Drop, E: Write + Drop>(
     ensures other { IfOk result.ended (λ status. status ≢ Status.BadCommandLine) }
     ensures does { (text : Option (List ℕ)) → DoesBookJob (image_at S.Start)
         ⟦<SqlBook<FileStore<FileFrom<S>>> as Book>⟧
-        ⟦<Sockets<'static, HostRuntime> as Exchange>⟧
-        (λ listening away s. IsBoundTo listening s.event_loop.datagrams.sockets.items
-        s.event_loop.desk.door.address s.event_loop.desk.door.port × IsSomeAnd s.silenced (λ flag. flag.now ≡ away))
+        ⟦<Sockets<'static, HostRuntime> as Exchange>⟧ IsBoundTo
         ⟦<SqlBook<MemStore> as Book>⟧
         text (W.contents output) (text_of W.contents result.output)
         files.entry.config.now files.entry.database.now (BookJob.Serve serving.now) result.ended

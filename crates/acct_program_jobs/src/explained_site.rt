@@ -1,6 +1,7 @@
 //! The file of the configuration, and what `--explain` adds if a server refuses it while it runs.
-ghost use Rattle.std.specs.Prelude.{◌≡◌, ◌∷◌, ◌<◌, ◌^◌, [], None, IsSome};
+ghost use Rattle.std.specs.Prelude.{◌≡◌, ◌∷◌, ◌<◌, ◌^◌, [], None, IsSome, Some};
 ghost use Rattle.acct_service.specs.Told.{Grows};
+ghost use Rattle.acct_program_commands.specs.Puts.{WasSeen};
 ghost use Rattle.acct_program_commands.specs.Sights.{Poll};
 ghost use Rattle.acct_program_commands.specs.Looks.{LooksOnce};
 
@@ -42,6 +43,8 @@ impl<'a, R: ReadsFiles + Clock> SiteSource for ExplainedSite<'a, R> {
 
     ghost moments = { λ _. None };
 
+    ghost file = { λ source. Some source.file.name.now };
+
     fn moment(&mut self) -> u64
         ensures bounded { result < 2 ^ 53 }
         ensures kept { self.new ≡ self.old }
@@ -53,6 +56,7 @@ impl<'a, R: ReadsFiles + Clock> SiteSource for ExplainedSite<'a, R> {
         ensures told { Grows {C = Poll} None (record { moment = moment; sight = result } ∷ []) None }
         ensures kept { self.new ≡ record self.old { file = self.new.file } }
         ensures looked { LooksOnce moment self.old.file self.new.file (IsSome result) }
+        ensures seen { WasSeen (Some self.old.file.name.now) result }
     {
         self.file.look(alloc, moment)
     }

@@ -1,5 +1,4 @@
 //! Laws above the definitions: functions without effect, whose contracts are the laws.
-ghost use Rattle.std.specs.Prelude.{◌≡◌, IsSomeAnd};
 ghost use Rattle.sqlite_wal.specs.Files.{image_at};
 ghost use Rattle.acct_program_serving.specs.Serving.{IsBoundTo};
 ghost use Rattle.acct_program_jobs.specs.Promise.{FilesAreRight};
@@ -18,10 +17,7 @@ use sqlite::{FileFrom, FileStore, Start};
 /// book that stands for what was accepted.
 pub fn every_balance_is_right<S: Start>()
     ensures { FilesAreRight (image_at S.Start) ⟦<SqlBook<FileStore<FileFrom<S>>> as Book>⟧
-        ⟦<Sockets<'static, HostRuntime> as Exchange>⟧
-        (λ listening away s. IsBoundTo listening s.event_loop.datagrams.sockets.items
-        s.event_loop.desk.door.address s.event_loop.desk.door.port
-        × IsSomeAnd s.silenced (λ flag. flag.now ≡ away)) }
+        ⟦<Sockets<'static, HostRuntime> as Exchange>⟧ IsBoundTo }
 {
     laws::every_balance_is_right::<SqlBook<FileStore<FileFrom<S>>>>();
 }

@@ -27,6 +27,7 @@ pub(crate) fn server_of<'a, R: ReadsFiles + Clock + Net + AllocGlobal, E: Write 
     ensures file { result.file.now ≡ files.entry.database.now }
     ensures reports { AreReports serving.now.listening result.around.reports }
     ensures source { result.around.source.name.now ≡ files.entry.config.now }
+    ensures text { result.around.source.file.name.now ≡ files.entry.config.now }
     ensures explains { result.around.source.explains ≡ errors.explains }
     ensures quiet { serving.now.telling.is_quiet ≡ true → result.around.errors.drops ≡ None }
     ensures drops { serving.now.telling.is_quiet ≡ false

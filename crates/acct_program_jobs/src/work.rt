@@ -1,6 +1,6 @@
 //! The commands that work on the book of a file, and close it at their end.
 ghost use Rattle.std.specs.Prelude.{◌≢◌, ◌≡◌, ◌<◌, ◌≤◌, ◌^◌, ℕ, List, Option, Result};
-ghost use Rattle.std.specs.Prelude.{Ok, None, IfOk, IfErr, IfSome, IsSomeAnd};
+ghost use Rattle.std.specs.Prelude.{Ok, None, Some, IfOk, IfErr, IfSome};
 ghost use Rattle.sqlite_wal.specs.Files.{image_at};
 ghost use Rattle.acct_book.specs.declared.book.Book as book;
 ghost use Rattle.acct_site.specs.declared.config.Config.{Config};
@@ -172,9 +172,8 @@ impl<R: ReadsFiles + Clock, W: Write, E: Write + Drop> Work<W> for Server<'_, R,
     ghost did = { λ b it config ended first last before after. RunsServer b
         ⟦<Sockets<'static, HostRuntime> as Exchange>⟧
         ⟦<HostRuntime as ReplacesFiles>⟧.was_put
-        (λ away s. IsBoundTo it.serving.now.listening s.event_loop.datagrams.sockets.items
-        s.event_loop.desk.door.address s.event_loop.desk.door.port × IsSomeAnd s.silenced (λ flag. flag.now ≡ away))
-        None None it.file.now it.serving.now config before after ended first last };
+        (IsBoundTo it.serving.now.listening)
+        (Some it.around.source.file.name.now) None None it.file.now it.serving.now config before after ended first last };
 
     fn over<B: Book>(
         self,

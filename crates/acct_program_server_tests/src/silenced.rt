@@ -59,6 +59,8 @@ impl SiteSource for Sender<'_> {
 
     ghost moments = { λ _. None };
 
+    ghost file = { λ _. None };
+
     fn moment(&mut self) -> u64 {
         1000
     }

@@ -34,6 +34,8 @@ impl SiteSource for Alternating<'_> {
 
     ghost moments = { λ _. None };
 
+    ghost file = { λ _. None };
+
     fn moment(&mut self) -> u64 {
         1000
     }
@@ -190,7 +192,7 @@ fn ends_where_a_busy_book_is_stuck(rt: HostRuntime) -> Result<(), Fail> {
     Ok(())
 }
 
-// Rounds that end a run after so many.
+// Rounds that end a run after so many, and before the last one nobody is heard.
 #[derive(Drop)]
 struct Ending {
     left: u64,
@@ -202,6 +204,8 @@ impl Rounds for Ending {
     ghost shows = { λ _ _ _ _ _. ⊤ };
 
     ghost is_over = { λ rounds. rounds.left == 0 };
+
+    ghost is_silent = { λ rounds. rounds.left == 1 };
 
     fn go_round<B: Book>(
         &mut self,
@@ -216,23 +220,36 @@ impl Rounds for Ending {
     fn is_over(&self) -> bool {
         self.left == 0
     }
+
+    fn is_silent(&self) -> bool {
+        self.left == 1
+    }
 }
 
-// How an idle server ends whose second round ends the run, and how many turns it made.
-fn ended_by_a_round(alloc: Global) -> Result<(Until, u64), Fail> {
+// How many events a server counts that is asked in each turn, how it ends whose third round ends the
+// run, and how many turns it made.
+fn ended_by_a_round(alloc: Global) -> Result<(u64, Until, u64), Fail> {
     let config = site_of(alloc, OLD)?;
     let rules = Rules {
         config: &config,
         oldest: None,
     };
-    let (mut book, mut rounds) = (MemBook::new(alloc), Ending { left: 2 });
-    let mut exchange = ListExchange::new(alloc, Vec::new(alloc));
-    let (_, until) = serve_in_slices(alloc, &rules, &mut book, &mut exchange, &mut rounds, 5_220);
-    Ok((until, exchange.turns()))
+    let (mut book, mut rounds) = (MemBook::new(alloc), Ending { left: 3 });
+    let mut exchange = ListExchange::new(alloc, turns(alloc, 1_000, true)?);
+    let (served, until) = serve_in_slices(
+        alloc,
+        &rules,
+        &mut book,
+        &mut exchange,
+        &mut rounds,
+        5_220,
+    );
+    Ok((served.events, until, exchange.turns()))
 }
 
+// In the third slice nobody is heard.
 #[test]
 fn ends_where_a_round_ends_it(rt: HostRuntime) -> Result<(), Fail> {
-    assert!(rt; ended_by_a_round(rt.alloc())? == (Until::Over, 512));
+    assert!(rt; ended_by_a_round(rt.alloc())? == (512, Until::Over, 768));
     Ok(())
 }

@@ -85,6 +85,8 @@ impl SiteSource for Stage<'_> {
 
     ghost moments = { λ _. None };
 
+    ghost file = { λ _. None };
+
     fn moment(&mut self) -> u64 {
         self.file.moment()
     }

@@ -7,7 +7,7 @@ pub fn turn<X: Exchange>(exchange: &mut X) -> Result<Option<Event>, Fault> {
     if exchange.turns() == u64::MAX || exchange.failures() == u64::MAX {
         return Err(Fault);
     }
-    exchange.next()
+    exchange.next(false)
 }
 
 /// Sends a reply, unless there were as many failures as can be counted.

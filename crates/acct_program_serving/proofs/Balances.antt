@@ -60,7 +60,7 @@ goes_so One Other so plans old gave new goes = record {
   reads = goes.reads;
   keeps = keeps_however One Other so goes.moment old.balances new.balances goes.keeps;
   looks = goes.looks;
-  alike = goes.alike;
+  same = goes.same;
   takes = goes.takes;
 }
 
@@ -70,7 +70,7 @@ rounds_told : (Put : List ℕ → List ℕ → Type 0) (is_open : Type 0) (opene
     → EachStandsAfter plans history seen slices → RoundsTell Put plans history seen known slices last
 rounds_told Put is_open opened plans history seen [] known last same each = same
 rounds_told Put is_open opened plans history seen (slice ∷ later) known last
-    (next, goes, shows, rest) ((after, run, stands), each) = (
+    (quiet, next, goes, shows, rest) ((after, run, stands), each) = (
       after,
       run,
       next,

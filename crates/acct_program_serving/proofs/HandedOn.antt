@@ -1,5 +1,4 @@
 -- A run over an exchange is one over any other that counts and records the same.
-use Rattle.std.specs.declared.cell.Cell.{Cell}
 use Rattle.std.specs.Prelude.{◌≡◌, ◌-◌, ⊤, ℕ, Bool, List, [], ◌∷◌, Option, Some, None}
 use Rattle.std.proofs.Common.{◌∙◌, subst, sym, ap}
 use Rattle.acct_book.specs.declared.book.Book as book
@@ -18,7 +17,7 @@ use Rattle.acct_program_args.specs.declared.job.Serving.{Serving}
 use Rattle.acct_program_args.specs.Orders.{seconds_of}
 use Rattle.acct_program_commands.specs.Fresh.{IsDue}
 use Rattle.acct_program_commands.specs.Placed.{IsPut, PutsBalances}
-use Rattle.acct_program_commands.specs.Rounds.{GoesRound, KeepsAt, RoundState, file_of}
+use Rattle.acct_program_commands.specs.Rounds.{GoesRound, KeepsAt, RoundState, are_away, file_of}
 use Rattle.acct_program_commands.specs.Unwritten.{Rewrites}
 use Rattle.acct_program_commands.specs.declared.balances_file.KeptBalances.{KeptBalances}
 use Rattle.acct_program_serving.specs.Files.{Begins, IsKept, HasKept}
@@ -84,15 +83,18 @@ pub rounds_after : {R : Type 0} (r : rounds.Ghosts R) (Put : List ℕ → List �
     → r.shows old config content gave new
     → GoesRound (λ name. PutsBalances (Put name) content ⊤) config.plans (known old)
     gave (known new))
+    (quiet : (x : R) → r.is_silent x ≡ are_away (known x).names)
     (first : R) (slices : List Slice) (last : R) → GoRounds r is_open first slices last
     → RoundsAfter Put is_open (known first) slices (known last)
-rounds_after r Put is_open known each shown first [] last same = ap known same
-rounds_after r Put is_open known each shown first (slice ∷ later) last (next, goes, shows, on, rest) = (
-  known next,
-  each first slice.site slice.given next goes,
-  λ opened. shown first slice.site slice.content slice.given next (shows opened),
-  rounds_after r Put is_open known each shown next later last rest,
-)
+rounds_after r Put is_open known each shown quiet first [] last same = ap known same
+rounds_after r Put is_open known each shown quiet first (slice ∷ later) last
+    (silent, next, goes, shows, on, rest) = (
+      λ away. silent (quiet first ∙ away),
+      known next,
+      each first slice.site slice.given next goes,
+      λ opened. shown first slice.site slice.content slice.given next (shows opened),
+      rounds_after r Put is_open known each shown quiet next later last rest,
+    )
 
 -- a run of slices, whose rounds went another way, too
 however : {B : Type 0} (b : book.Ghosts B) (oldest : Option ℕ) (config : Config) (old new : B)
@@ -114,15 +116,15 @@ however b oldest config old new told later Went Goes so limit made served why ru
 }
 
 module _ {B X : Type 0} (b : book.Ghosts B) (x : exchange.Ghosts X)
-    (Put : List ℕ → List ℕ → Type 0) (IsBound : Cell Bool → X → Type 0)
-    (polls : Option (List Poll)) (moments : Option (List ℕ)) (path : List ℕ) (serving : Serving)
-    (known then : RoundState) (config : Config) (before_all old new : B)
+    (Put : List ℕ → List ℕ → Type 0) (IsBound : X → Type 0)
+    (file : Option (List ℕ)) (polls : Option (List Poll)) (moments : Option (List ℕ))
+    (path : List ℕ) (serving : Serving) (known then : RoundState) (config : Config) (before_all old new : B)
     (begins : Begins (λ name. PutsBalances (Put name) (b.content before_all)
-    (b.is_open old)) serving.telling.balances polls moments path known)
+    (b.is_open old)) serving.telling.balances file polls moments path known)
     (Went : List Slice → Type 0)
     (so : (slices : List Slice) → Went slices → RoundsAfter Put (b.is_open new) known slices then)
     (looked : OnlyLooks b before_all old) (first last : X)
-    (bound : IsBound known.away first) (fresh : x.turn_count first ≡ 0)
+    (bound : IsBound first) (fresh : x.turn_count first ≡ 0)
     (faultless : x.failure_count first ≡ 0) where
   ran_however : (served : Served) (why : Until)
       → Ran b x (seconds_of serving.oldest_report) config serving.turns Went old new first last
@@ -155,7 +157,7 @@ module _ {B X : Type 0} (b : book.Ghosts B) (x : exchange.Ghosts X)
   pub ends_afresh : (before after : Option (List ℕ)) (ended : Ended)
       → EndsOver b x (seconds_of serving.oldest_report) config serving.turns Went old new first last
       before after ended
-      → EndsAfresh b x Put IsBound polls moments path serving config before_all new last before after
+      → EndsAfresh b x Put IsBound file polls moments path serving config before_all new last before after
       ended
   ends_afresh before after ended ends = record {
     begun = old;

@@ -1,6 +1,5 @@
 -- The promise of `serve`, by that of the visits of its run.
 use Rattle.std.proofs.Common.{◌≡◌, ℕ, List, [], sym, subst, refl, inl, inr, arith}
-use Rattle.std.specs.declared.cell.Cell.{Cell}
 use Rattle.std.specs.Prelude.{Bool, Option, None, Contains}
 use Rattle.acct_model.specs.declared.plan.Plan.{Plan}
 use Rattle.acct_model.specs.History.{History}
@@ -70,13 +69,13 @@ module _ {B X : Type 0} (b : book.Ghosts B) (x : exchange.Ghosts X)
       right plans before visits begun new told later attends
       (looked_began plans before old begun looked began (attends.keeps.was_sound sound)) sound
 
-  module _ (Put : List ℕ → List ℕ → Type 0) (IsBound : Cell Bool → X → Type 0)
-      (polls : Option (List Poll)) (moments : Option (List ℕ)) (file : List ℕ)
-      (serving : Serving) (config : Config) (printed after : Option (List ℕ)) (old new : B) where
+  module _ (Put : List ℕ → List ℕ → Type 0) (IsBound : X → Type 0)
+      (text : Option (List ℕ)) (polls : Option (List Poll)) (moments : Option (List ℕ))
+      (file : List ℕ) (serving : Serving) (config : Config) (printed after : Option (List ℕ)) (old new : B) where
     ended_right : (last : X) (ended : Ended) (before : History)
-        (it : EndsAfresh b x Put IsBound polls moments file serving config old new last printed
+        (it : EndsAfresh b x Put IsBound text polls moments file serving config old new last printed
         after ended) → BeganWith b config.plans before old → b.is_sound new
-        → EveryBalanceIsRight b config.plans before (visits_at b x Put IsBound polls moments file
+        → EveryBalanceIsRight b config.plans before (visits_at b x Put IsBound text polls moments file
         serving config printed after old new last ended it) new
     ended_right last (how.Told served why) before it began sound =
         let run = it.ends.0.run in
@@ -95,13 +94,13 @@ module _ {B X : Type 0} (b : book.Ghosts B) (x : exchange.Ghosts X)
 
   module _ (begins : OpenBooksBegin b) where
     pub serves_rightly : (Put : List ℕ → List ℕ → Type 0)
-        (IsBound : Listening → Cell Bool → X → Type 0) → ServesRightly b x Put IsBound
-    serves_rightly Put IsBound polls moments file serving config printed after result old new
+        (IsBound : Listening → X → Type 0) → ServesRightly b x Put IsBound
+    serves_rightly Put IsBound text polls moments file serving config printed after result old new
         before (inl (told, is, why, same, unprinted)) opened stood sound =
         subst (λ (one : B). EveryBalanceIsRight b config.plans before [] one) (sym same)
         (none_right config.plans before old (begins config.plans before old opened stood)
         (subst (λ (one : B). b.is_sound one) same sound))
-    serves_rightly Put IsBound polls moments file serving config printed after result old new
+    serves_rightly Put IsBound text polls moments file serving config printed after result old new
         before (inr (ended, is, (last, it))) opened stood sound =
-        ended_right Put (IsBound serving.listening) polls moments file serving config printed after
+        ended_right Put (IsBound serving.listening) text polls moments file serving config printed after
         old new last ended before it (begins config.plans before old opened stood) sound

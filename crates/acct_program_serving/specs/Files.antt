@@ -43,10 +43,11 @@ IsNamed book names =
     (names.book.path ≡ book) × (names.looked_at ≡ None) × (names.is_away ≡ false)
 
 -- Before the first round the clock was read once. At that moment the file of balances that was named
--- was written. The text was not polled, and the book has this name.
-pub record Begins (IsPut : List ℕ → Type 0) (named : Option BalancesFile)
+-- was written. The text is in this file and was not polled, and the book has this name.
+pub record Begins (IsPut : List ℕ → Type 0) (named : Option BalancesFile) (file : Option (List ℕ))
     (polls : Option (List Poll)) (moments : Option (List ℕ)) (book : List ℕ) (begun : RoundState)
     : Type 0 where
+  pub text : begun.file ≡ file
   pub moment : ℕ
   pub reads : Grows moments (moment ∷ []) begun.moments
   pub keeps : HasKept IsPut named moment begun.balances

@@ -1,5 +1,4 @@
 -- The promise of `serve` in one statement: however it ran and ended, every balance is right.
-use Rattle.std.specs.declared.cell.Cell.{Cell}
 use Rattle.std.specs.Prelude.{ℕ, Bool, List, [], Option, Result}
 use Rattle.std.proofs.Common.{inl, inr}
 use Rattle.acct_model.specs.History.{History}
@@ -20,12 +19,13 @@ use Rattle.acct_program_serving.specs.declared.ended.Ended.{Ended}
 use Rattle.acct_program_serving.specs.declared.ended.Ended.TheVariants as how
 
 module _ {B X : Type 0} (b : book.Ghosts B) (x : exchange.Ghosts X)
-    (Put : List ℕ → List ℕ → Type 0) (IsBound : Cell Bool → X → Type 0)
-    (polls : Option (List Poll)) (moments : Option (List ℕ)) (file : List ℕ) (serving : Serving)
-    (config : Config) (printed after : Option (List ℕ)) (old new : B) where
+    (Put : List ℕ → List ℕ → Type 0) (IsBound : X → Type 0)
+    (text : Option (List ℕ)) (polls : Option (List Poll)) (moments : Option (List ℕ))
+    (file : List ℕ) (serving : Serving) (config : Config) (printed after : Option (List ℕ))
+    (old new : B) where
   -- the visits of a server that ended this way: none before its first turn
   abbrev pub visits_at : (last : X) (ended : Ended)
-      → EndsAfresh b x Put IsBound polls moments file serving config old new last printed after
+      → EndsAfresh b x Put IsBound text polls moments file serving config old new last printed after
       ended → List Visit
   visits_at last (how.Told served why) afresh = visits_in afresh.ends.0.run.slices
   visits_at last (how.Untold served why) afresh = visits_in afresh.ends.run.slices
@@ -33,7 +33,7 @@ module _ {B X : Type 0} (b : book.Ghosts B) (x : exchange.Ghosts X)
 
   -- the visits of the command: none if its sockets could not be bound
   abbrev pub visits_of : (result : Result Status Fault)
-      → RunsServer b x Put IsBound polls moments file serving config printed after result old new
+      → RunsServer b x Put IsBound text polls moments file serving config printed after result old new
       → List Visit
   visits_of result (inl unbound) = []
   visits_of result (inr (ended, is, (last, afresh))) = visits_at last ended afresh
@@ -41,12 +41,12 @@ module _ {B X : Type 0} (b : book.Ghosts B) (x : exchange.Ghosts X)
 -- However it ran and ended, over an open book whose content stood for a history, if at the end the
 -- store is as it promises.
 abbrev pub ServesRightly : {B X : Type 0} → book.Ghosts B → exchange.Ghosts X
-    → (List ℕ → List ℕ → Type 0) → (Listening → Cell Bool → X → Type 0) → Type 0
-ServesRightly {B} b x Put IsBound = (polls : Option (List Poll)) (moments : Option (List ℕ))
-    (file : List ℕ) (serving : Serving) (config : Config) (printed after : Option (List ℕ))
+    → (List ℕ → List ℕ → Type 0) → (Listening → X → Type 0) → Type 0
+ServesRightly {B} b x Put IsBound = (text : Option (List ℕ)) (polls : Option (List Poll))
+    (moments : Option (List ℕ)) (file : List ℕ) (serving : Serving) (config : Config) (printed after : Option (List ℕ))
     (result : Result Status Fault) (old new : B) (before : History)
-    (run : RunsServer b x Put (IsBound serving.listening) polls moments file serving config printed
-    after result old new)
+    (run : RunsServer b x Put (IsBound serving.listening) text polls moments file serving config
+    printed after result old new)
     → b.is_open old → Stands config.plans (b.content old) before → b.is_sound new
     → EveryBalanceIsRight b config.plans before (visits_of b x Put (IsBound serving.listening)
-    polls moments file serving config printed after old new result run) new
+    text polls moments file serving config printed after old new result run) new

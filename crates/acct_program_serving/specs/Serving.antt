@@ -1,6 +1,8 @@
 -- What `serve` does, and how it ends.
-use Rattle.std.specs.declared.cell.Cell.{Cell}
-use Rattle.std.specs.Prelude.{◌≡◌, ◌⊎◌, ⊤, ℕ, Bool, List, [], ◌∷◌, Option, Result, Ok, Err}
+use Rattle.std.specs.Prelude.{◌≡◌, ◌⊎◌, ⊤, ℕ, true, List, [], ◌∷◌, Option, Result, Ok, Err}
+use Rattle.std.specs.declared.fd.AsRawFd as fd
+use Rattle.std.specs.declared.io.traits.Read as read
+use Rattle.std.specs.declared.io.traits.Write as write
 use Rattle.std.specs.Io.KnownBytes.{Appends}
 use Rattle.std.specs.List.{AllZip}
 use Rattle.std.specs.Net.Grammar.{IsDotted}
@@ -11,13 +13,14 @@ use Rattle.acct_service.specs.Slices.{Slice}
 use Rattle.acct_service.specs.declared.exchange.Exchange as exchange
 use Rattle.acct_service.specs.declared.slices.Until.TheVariants as until
 use Rattle.acct_net.specs.Bound.{AreBoundAt, AreUnheardAt}
+use Rattle.acct_net.specs.Doors.{datagrams_of, desk_of}
 use Rattle.acct_net.specs.declared.datagrams.Datagrams.{Datagrams}
-use Rattle.acct_net.specs.declared.datagrams.RadiusSocket.{RadiusSocket}
+use Rattle.acct_net.specs.declared.sockets.Sockets.{Sockets}
 use Rattle.acct_program_args.specs.declared.job.Listening.{Listening}
 use Rattle.acct_program_args.specs.declared.job.Serving.{Serving}
 use Rattle.acct_program_args.specs.Orders.{seconds_of}
 use Rattle.acct_program_commands.specs.Placed.{IsPut, PutsBalances}
-use Rattle.acct_program_commands.specs.Rounds.{GoesRound, RoundState}
+use Rattle.acct_program_commands.specs.Rounds.{GoesRound, RoundState, are_away}
 use Rattle.acct_program_commands.specs.Sights.{Poll}
 use Rattle.acct_program_commands.specs.declared.fault.Fault.{Fault}
 use Rattle.acct_program_commands.specs.declared.fault.Fault.TheVariants as fault
@@ -55,22 +58,24 @@ AreReports listening (Err told) = IsUnbound told
 
 -- The sockets are bound as the options say: one for datagrams at each address that they name, in
 -- their order, and the desk at its own; each at its port.
-pub record IsBoundTo (listening : Listening) (datagrams : List RadiusSocket) (desk : List ℕ)
-    (desk_port : ℕ) : Type 0 where
-  pub addresses : List (List ℕ)
-  pub spelt : AllZip IsDotted listening.addresses.items addresses
-  pub datagrams_are : AreBoundAt addresses listening.radius_port datagrams
-  pub desk_is : IsDotted listening.desk_address desk
-  pub desk_port_is : desk_port ≡ listening.desk_port
+module _ {R S L : Type 0} {r : read.Ghosts S} {w : write.Ghosts S} {s : fd.Ghosts S}
+    {l : fd.Ghosts L} where
+  pub record IsBoundTo (listening : Listening) (sockets : Sockets R S L r w s l) : Type 0 where
+    pub addresses : List (List ℕ)
+    pub spelt : AllZip IsDotted listening.addresses.items addresses
+    pub datagrams_are : AreBoundAt addresses listening.radius_port (datagrams_of sockets)
+    pub desk_is : IsDotted listening.desk_address (desk_of sockets).0
+    pub desk_port_is : (desk_of sockets).1 ≡ listening.desk_port
 
 -- After each slice a round went, and nothing else did. The turns that follow have what was taken
 -- from its poll: other clients and keys, or what was in force. If the book is open, each file of
--- balances that was put in its place has those of the content after that slice.
+-- balances that was put in its place has those of the content after that slice. While a name of the
+-- book leads elsewhere, nobody is heard.
 abbrev pub RoundsAfter : (List ℕ → List ℕ → Type 0) → Type 0 → RoundState → List Slice
     → RoundState → Type 0
 RoundsAfter Put is_open known [] last = known ≡ last
 RoundsAfter Put is_open known (slice ∷ later) last =
-    (next : RoundState)
+    (are_away known.names ≡ true → slice.visits ≡ []) × (next : RoundState)
     × GoesRound (λ name. IsPut (Put name)) slice.site.plans known slice.given next
     × (is_open → GoesRound (λ name. PutsBalances (Put name) slice.content ⊤)
     slice.site.plans known slice.given next)
@@ -101,20 +106,20 @@ module _ {B X : Type 0} (b : book.Ghosts B) (x : exchange.Ghosts X) where
   -- Before it began, the book was only read, for the file of balances. Its rounds went on from what
   -- the text and its clock had shown, with the file of balances that was named and the name of this
   -- book: each configuration is the first one, or was taken from a poll.
-  pub record EndsAfresh (Put : List ℕ → List ℕ → Type 0) (IsBound : Cell Bool → X → Type 0)
-      (polls : Option (List Poll)) (moments : Option (List ℕ)) (book : List ℕ) (serving : Serving)
-      (config : Config) (old new : B) (last : X) (before after : Option (List ℕ)) (ended : Ended)
-      : Type 0 where
+  pub record EndsAfresh (Put : List ℕ → List ℕ → Type 0) (IsBound : X → Type 0)
+      (file : Option (List ℕ)) (polls : Option (List Poll)) (moments : Option (List ℕ))
+      (book : List ℕ) (serving : Serving) (config : Config) (old new : B) (last : X)
+      (before after : Option (List ℕ)) (ended : Ended) : Type 0 where
     pub begun : B
     pub looked : OnlyLooks b old begun
     pub first : X
     pub fresh : x.turn_count first ≡ 0
     pub faultless : x.failure_count first ≡ 0
     pub known : RoundState
-    pub bound : IsBound known.away first
+    pub bound : IsBound first
     pub begins : Begins
         (λ name. PutsBalances (Put name) (b.content old) (b.is_open begun))
-        serving.telling.balances polls moments book known
+        serving.telling.balances file polls moments book known
     pub then : RoundState
     pub ends : EndsOver (seconds_of serving.oldest_report) config serving.turns
         (λ slices. RoundsAfter Put (b.is_open new) known slices then) begun new first last before
@@ -122,10 +127,10 @@ module _ {B X : Type 0} (b : book.Ghosts B) (x : exchange.Ghosts X) where
 
   -- The command. The sockets could not be bound, and nothing was done. Or a server ended this way
   -- over an exchange that was bound so, and had made no turn and no fault.
-  abbrev pub RunsServer : (List ℕ → List ℕ → Type 0) → (Cell Bool → X → Type 0)
-      → Option (List Poll) → Option (List ℕ) → List ℕ → Serving → Config → Option (List ℕ)
-      → Option (List ℕ) → Result Status Fault → B → B → Type 0
-  RunsServer Put IsBound polls moments book serving config before after result old new =
+  abbrev pub RunsServer : (List ℕ → List ℕ → Type 0) → (X → Type 0)
+      → Option (List ℕ) → Option (List Poll) → Option (List ℕ) → List ℕ → Serving → Config
+      → Option (List ℕ) → Option (List ℕ) → Result Status Fault → B → B → Type 0
+  RunsServer Put IsBound file polls moments book serving config before after result old new =
       ((told : Fault) × (result ≡ Err told) × IsUnbound told × (new ≡ old) × (after ≡ before))
-      ⊎ ((ended : Ended) × (result ≡ ended_of ended) × ((last : X) × EndsAfresh Put IsBound polls
-      moments book serving config old new last before after ended))
+      ⊎ ((ended : Ended) × (result ≡ ended_of ended) × ((last : X) × EndsAfresh Put IsBound file
+      polls moments book serving config old new last before after ended))

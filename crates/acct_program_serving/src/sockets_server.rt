@@ -101,10 +101,9 @@ pub fn run_serve<
     requires reports { AreReports serving.now.listening around.reports }
     ensures done { IfOk result (λ status. status ≡ Status.Done) }
     ensures serves { RunsServer B.Book ⟦<Sockets<'r, R> as Exchange>⟧
-        R.was_put (λ away s. IsBoundTo serving.now.listening s.event_loop.datagrams.sockets.items
-        s.event_loop.desk.door.address s.event_loop.desk.door.port
-        × IsSomeAnd s.silenced (λ flag. flag.now ≡ away))
-        (S.polls around.source) (S.moments around.source) database.now serving.now config.now
+        R.was_put (IsBoundTo serving.now.listening)
+        (S.file around.source) (S.polls around.source) (S.moments around.source) database.now
+        serving.now config.now
         (W.contents output.old) (W.contents output.new) result book.old book.new }
 {
     let Surroundings {
@@ -118,7 +117,7 @@ pub fn run_serve<
     let files = files_to_write(runtime, alloc, telling, &gauges, database, noted)?;
     let WrittenFiles { balances, counts } = files;
     let names = BookNames::new(runtime, alloc, database)?;
-    let sockets = bound(runtime, alloc, &serving.listening, reports)?.silenced_by(gauges.away());
+    let sockets = bound(runtime, alloc, &serving.listening, reports)?;
     let noted = Shared::new(&notices);
     let begun = first_rounds(alloc, source, balances, names, config, book, &gauges, noted);
     let watcher = Watcher {
@@ -189,9 +188,8 @@ fn first_rounds<'r, R: ReplacesFiles, S: SiteSource + Drop, B: Book, E: Write + 
     ensures begins { (named : Option BalancesFile) (path : List ℕ) → IsKept named balances.entry
         → IsNamed path (seen_of names.entry)
         → Begins (λ name. PutsBalances (R.was_put name) (B.content book.old)
-        (B.is_open book.new)) named (S.polls source) (S.moments source)
-        path (state_of S.polls S.moments result) }
-    ensures away { result.gauges ≡ gauges.entry }
+        (B.is_open book.new)) named (S.file source) (S.polls source) (S.moments source)
+        path (state_of S.file S.polls S.moments result) }
 {
     write_first(
         alloc,
@@ -217,6 +215,7 @@ fn write_first<'r, R: ReplacesFiles, S: SiteSource, B: Book, E: Write>(
 )
     ensures looks { OnlyLooks B.Book book.old book.new }
     ensures unpolled { S.polls source.new ≡ S.polls source.old }
+    ensures same { S.file source.new ≡ S.file source.old }
     ensures keeps { (moment : ℕ)
         × Grows (S.moments source.old) (moment ∷ []) (S.moments source.new)
         × KeepsAt (λ name. PutsBalances (R.was_put name) (B.content book.old)
@@ -298,9 +297,7 @@ fn bound<'r, R: Net + Clock>(
 ) -> Result<Sockets<'r, R>, Fault>
     requires { AreReports listening.now reports }
     ensures fresh { IfOk result (λ s. (s.turns ≡ 0) × (s.failures ≡ 0)) }
-    ensures bound { IfOk result (λ s. IsBoundTo listening.now
-        s.event_loop.datagrams.sockets.items s.event_loop.desk.door.address
-        s.event_loop.desk.door.port) }
+    ensures bound { IfOk result (IsBoundTo listening.now) }
     ensures why { IfErr result IsUnbound }
 {
     let datagrams = match reports {

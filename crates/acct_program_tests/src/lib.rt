@@ -35,6 +35,8 @@ mod lost_books;
 #[cfg(test)]
 mod many_plans;
 #[cfg(test)]
+mod printed_keys;
+#[cfg(test)]
 mod sample_values;
 #[cfg(test)]
 mod served;

@@ -159,35 +159,46 @@ ends_early until.Shut found visits is early stuck = tt
 ends_early until.Stuck found visits is early stuck = stuck is
 ends_early until.Over found visits is early stuck = tt
 
+-- turns in which no event was counted have no visit
+none_heard : (visits : List Visit) (was is : Served) → CountsMore visits was is
+    → is.events ≡ was.events → visits ≡ []
+none_heard [] was is counts same = refl
+none_heard (one ∷ more) was is counts same = absurd (omega (arith, counts.events, same))
+
 -- one round more
 rounds_more : {R : Type 0} (r : rounds.Ghosts R) (is_open : Type 0) (first then last : R)
     (slices : List Slice) (slice : Slice) → GoRounds r is_open first slices then
-    → (slices ≢ [] → r.is_over then ≡ false) → r.goes then slice.site slice.given last
+    → (slices ≢ [] → r.is_over then ≡ false) → (r.is_silent then ≡ true → slice.visits ≡ [])
+    → r.goes then slice.site slice.given last
     → (is_open → r.shows then slice.site slice.content slice.given last)
     → GoRounds r is_open first (slices ++ slice ∷ []) last
-rounds_more r is_open first then last [] slice same goes_on goes shows = (
+rounds_more r is_open first then last [] slice same goes_on silent goes shows = (
+  λ is. silent (subst (λ it. r.is_silent it ≡ true) same is),
   last,
   subst (λ it. r.goes it slice.site slice.given last) (sym same) goes,
   λ opened. subst (λ it. r.shows it slice.site slice.content slice.given last) (sym same) (shows opened),
   λ none. absurd (none refl),
   refl,
 )
-rounds_more r is_open first then last (one ∷ []) slice (next, went, shown, only, same) goes_on goes
-    shows = (
+rounds_more r is_open first then last (one ∷ []) slice (quiet, next, went, shown, only, same) goes_on
+    silent goes shows = (
+      quiet,
       next,
       went,
       shown,
       λ more. subst (λ it. r.is_over it ≡ false) (sym same) (goes_on (λ is. cc)),
-      rounds_more r is_open next then last [] slice same (λ none. absurd (none refl)) goes shows,
+      rounds_more r is_open next then last [] slice same (λ none. absurd (none refl)) silent goes
+          shows,
     )
-rounds_more r is_open first then last (one ∷ second ∷ later) slice (next, went, shown, on, rest)
-    goes_on goes shows = (
+rounds_more r is_open first then last (one ∷ second ∷ later) slice (quiet, next, went, shown, on, rest)
+    goes_on silent goes shows = (
+      quiet,
       next,
       went,
       shown,
       λ more. on (λ is. cc),
       rounds_more r is_open next then last (second ∷ later) slice rest
-          (λ more. goes_on (λ is. cc)) goes shows,
+          (λ more. goes_on (λ is. cc)) silent goes shows,
     )
 
 -- a book that is open later was open before
@@ -195,13 +206,15 @@ rounds_later : {R : Type 0} (r : rounds.Ghosts R) (is_open later_open : Type 0)
     (was_open : later_open → is_open) (first : R) (slices : List Slice) (last : R)
     → GoRounds r is_open first slices last → GoRounds r later_open first slices last
 rounds_later r is_open later_open was_open first [] last same = same
-rounds_later r is_open later_open was_open first (one ∷ later) last (next, went, shown, on, rest) = (
-  next,
-  went,
-  λ opened. shown (was_open opened),
-  on,
-  rounds_later r is_open later_open was_open next later last rest,
-)
+rounds_later r is_open later_open was_open first (one ∷ later) last
+    (quiet, next, went, shown, on, rest) = (
+      quiet,
+      next,
+      went,
+      λ opened. shown (was_open opened),
+      on,
+      rounds_later r is_open later_open was_open next later last rest,
+    )
 
 module _ {B : Type 0} (b : book.Ghosts B) (plans : List Plan) where
   -- one slice more
@@ -337,13 +350,14 @@ module _ {B R : Type 0} (b : book.Ghosts B) (r : rounds.Ghosts R) (oldest : Opti
       → turns_made ≡ min (limit - made) 256 → is.events ≤ was.events + turns_made
       → Reached old mid told later first before site made was until.AllMade
       → (turns : TakesTurns b oldest site mid looked later last was is had has)
+      → (r.is_silent before ≡ true → is.events ≡ was.events)
       → EndsAfter why turns.visits → (why ≡ until.AllMade → r.is_over after ≡ false)
       → (why ≡ until.AllMade → b.is_sound new → b.is_open new) → OnlyLooks b looked new
       → IfSome gave (λ other. other.plans ≡ site.plans) → r.goes before site gave after
       → (b.is_open new → r.shows before site (b.content looked) gave after)
       → Reached old new told last first after (site_then site gave) (made + turns_made) is why
   reached_more old mid looked new told later last first before after site made turns_made was is had
-      has gave why few events reached turns ends on opened looks plans goes shows =
+      has gave why few events reached turns silent ends on opened looks plans goes shows =
       let so_far = reached.so_far in
       let slice : Slice = record {
         site = site;
@@ -378,7 +392,8 @@ module _ {B R : Type 0} (b : book.Ghosts B) (r : rounds.Ghosts R) (oldest : Opti
           went = rounds_more r (b.is_open new) first before after so_far.slices slice
               (rounds_later r (b.is_open mid) (b.is_open new)
               (λ still. turns.attends.keeps.was_open (looks.was_open still)) first so_far.slices
-              before so_far.went) (reached.goes_on refl) goes shows;
+              before so_far.went) (reached.goes_on refl)
+              (λ is_so. none_heard turns.visits was is turns.counts (silent is_so)) goes shows;
           attends = subst (λ vs. Attends b config.plans vs old new told last) visits_are
               (attends_looked b config.plans (visits_in so_far.slices ++ turns.visits) old looked
               new told last
@@ -404,6 +419,7 @@ module _ {B R : Type 0} (b : book.Ghosts B) (r : rounds.Ghosts R) (oldest : Opti
       → turns_made ≡ min (limit - made) 256 → is.events ≤ was.events + turns_made
       → Reached old mid told later first before (unwrap_or changed config) made was until.AllMade
       → (turns : TakesTurns b oldest site mid turned later last was is had has)
+      → (r.is_silent before ≡ true → is.events ≡ was.events)
       → EndsAfter why turns.visits → (why ≡ until.AllMade → r.is_over after ≡ false)
       → (why ≡ until.AllMade → b.is_sound new → b.is_open new) → OnlyLooks b turned looked
       → IfSome gave (λ other. other.plans ≡ site.plans) → r.goes before site gave after
@@ -411,8 +427,8 @@ module _ {B R : Type 0} (b : book.Ghosts B) (r : rounds.Ghosts R) (oldest : Opti
       → OnlyLooks b looked new
       → Reached old new told last first after (unwrap_or (option_or gave changed) config) all is why
   reached_slice old mid turned looked new told later last first before after changed gave site made
-      turns_made all was is had has why all_is found few events reached turns ends on opened looks
-      plans goes shows again =
+      turns_made all was is had has why all_is found few events reached turns silent ends on opened
+      looks plans goes shows again =
       let now = unwrap_or changed config in
       let then = site_then now gave in
       let (taken, ended) = subst
@@ -422,7 +438,7 @@ module _ {B R : Type 0} (b : book.Ghosts B) (r : rounds.Ghosts R) (oldest : Opti
       (sym (site_kept config changed gave))
       (subst (λ m. Reached old new told last first after then m is why) (sym all_is)
       (reached_more old mid turned new told later last first before after now made turns_made was is
-      had has gave why few events reached taken ended on opened (looks_twice b turned looked new looks again)
+      had has gave why few events reached taken silent ended on opened (looks_twice b turned looked new looks again)
       (subst (λ (c : Config). IfSome gave (λ other. other.plans ≡ c.plans)) found plans)
       (subst (λ c. r.goes before c gave after) found goes)
       (λ still. subst (λ c. r.shows before c (b.content turned) gave after) found

@@ -1,7 +1,7 @@
 -- Turns in slices. How many a server makes until its book is shut, and which configuration each
 -- slice has, if clients and keys change in between.
 use Rattle.std.specs.Prelude.{◌≡◌, ◌≢◌, ◌+◌, ◌<◌, ◌≤◌, ⊤, ℕ, List, [], ◌∷◌, Option, None, Some, map}
-use Rattle.std.specs.Prelude.{Contains, length, ◌++◌, ◌-◌, false, count_by, min}
+use Rattle.std.specs.Prelude.{Contains, length, ◌++◌, ◌-◌, true, false, count_by, min}
 use Rattle.std.specs.List.{flat_map, list_any, sum_by}
 use Rattle.acct_model.specs.declared.plan.Plan.{Plan}
 use Rattle.acct_model.specs.History.{History}
@@ -121,11 +121,11 @@ SlicesStand {B} b = (plans : List Plan) (slices : List Slice) (old new : B)
     → EachStandsAfter plans history [] slices
 
 -- The rounds after each of these slices, from first to last. None but the last ended the run. If the
--- book is open, they showed what it had then.
+-- book is open, they showed what it had then. Of a slice that was to be silent nobody was heard.
 abbrev pub GoRounds : {R : Type 0} → rounds.Ghosts R → Type 0 → R → List Slice → R → Type 0
 GoRounds r is_open first [] last = first ≡ last
 GoRounds r is_open first (slice ∷ later) last =
-    (next : _) × r.goes first slice.site slice.given next
+    (r.is_silent first ≡ true → slice.visits ≡ []) × (next : _) × r.goes first slice.site slice.given next
     × (is_open → r.shows first slice.site slice.content slice.given next)
     × (later ≢ [] → r.is_over next ≡ false) × GoRounds r is_open next later last
 

@@ -1,5 +1,5 @@
 //! Where a server receives events and sends replies.
-ghost use Rattle.std.specs.Prelude.{◌≡◌, ℕ, ◌+◌, ◌-◌, ◌^◌, ◌<◌, Option, List};
+ghost use Rattle.std.specs.Prelude.{◌≡◌, ℕ, ◌+◌, ◌-◌, ◌^◌, ◌<◌, Option, None, List, true, IfOk};
 ghost use Rattle.acct_service.specs.declared.exchange.Call.{Call};
 ghost use Rattle.acct_service.specs.Told.{Grows, given, sent, drop_told, CountsFault};
 
@@ -50,14 +50,16 @@ pub trait Exchange {
     /// the oldest first, if it records them.
     ghost told: { Self → Option (List Call) };
 
-    /// One turn: the event that was received, or None if there was none.
+    /// One turn: the event that was received, or None if there was none. In a silent turn what is
+    /// received is lost, as by a server that is not there.
     ///
     /// # Errors
     ///
     /// A `Fault` is counted, and there is no event.
-    fn next(&mut self) -> Result<Option<Event>, Fault>
+    fn next(&mut self, is_silent: bool) -> Result<Option<Event>, Fault>
         requires turns { turn_count self.old < 2 ^ 64 - 1 }
         requires failures { failure_count self.old < 2 ^ 64 - 1 }
+        ensures silent { is_silent ≡ true → IfOk result (λ event. event ≡ None) }
         ensures turns { turn_count self.new ≡ turn_count self.old + 1 }
         ensures failures { CountsFault result (failure_count self.old) (failure_count self.new) }
         ensures told { Grows (told self.old) (given result) (told self.new) };

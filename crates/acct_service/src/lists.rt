@@ -140,7 +140,7 @@ impl Exchange for ListExchange {
 
     ghost told = { λ e. told_of e.tells e.calls.items };
 
-    fn next(&mut self) -> Result<Option<Event>, Fault> {
+    fn next(&mut self, is_silent: bool) -> Result<Option<Event>, Fault> {
         self.turns += 1;
         if self.place >= self.planned.len() {
             return Ok(None);
@@ -149,6 +149,7 @@ impl Exchange for ListExchange {
         self.place += 1;
         match turn {
             Planned::Nothing => Ok(None),
+            Planned::Comes { .. } if is_silent => Ok(None),
             Planned::Fails => {
                 self.failures += 1;
                 Err(Fault)

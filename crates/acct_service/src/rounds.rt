@@ -21,6 +21,9 @@ pub trait Rounds {
     /// Whether no turn may follow.
     ghost is_over: { Self → Bool };
 
+    /// Whether the turns that follow are silent.
+    ghost is_silent: { Self → Bool };
+
     /// Returns the configuration for the turns that follow, if it is another one: with other
     /// clients or keys, and the same plans.
     fn go_round<B: Book>(&mut self, alloc: Global, config: &Config, book: &mut B) -> Option<Config>
@@ -33,6 +36,10 @@ pub trait Rounds {
     /// Whether the run ends here, after a round.
     fn is_over(&self) -> bool
         ensures { result ≡ is_over self.now };
+
+    /// Whether nobody is heard in the turns that follow: the first ones, or those after a round.
+    fn is_silent(&self) -> bool
+        ensures { result ≡ is_silent self.now };
 }
 
 /// Does nothing between slices.
@@ -46,6 +53,8 @@ impl Rounds for NoRounds {
 
     ghost is_over = { λ _. false };
 
+    ghost is_silent = { λ _. false };
+
     fn go_round<B: Book>(
         &mut self,
         _alloc: Global,
@@ -56,6 +65,10 @@ impl Rounds for NoRounds {
     }
 
     fn is_over(&self) -> bool {
+        false
+    }
+
+    fn is_silent(&self) -> bool {
         false
     }
 }

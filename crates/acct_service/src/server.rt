@@ -1,6 +1,6 @@
 //! The turns of a server.
 ghost use Rattle.std.specs.Prelude.{◌≡◌, ℕ, ◌+◌, ◌-◌, ◌^◌, ◌<◌, ◌≤◌, ◌==◌};
-ghost use Rattle.std.specs.Prelude.{if◌then◌else◌, []};
+ghost use Rattle.std.specs.Prelude.{if◌then◌else◌, [], true};
 ghost use Rattle.acct_wire.specs.Reasons.{reason_number, count_for};
 ghost use Rattle.acct_wire.specs.declared.reason.Reason.{Reason};
 ghost use Rattle.acct_service.specs.Serving.{Serves, TakesTurn, TakesTurns, Counts, AtMost};
@@ -63,7 +63,7 @@ impl Served {
     }
 }
 
-/// Makes one turn: one `next`, and at most one `step_within` and one `reply` or `note_drop`. An event
+/// Makes one turn, silent or not: one `next`, and at most one `step_within` and one `reply` or `note_drop`. An event
 /// is answered and counted. A fault is counted too. An entry that was recorded stays recorded if its
 /// reply fails.
 ///
@@ -78,6 +78,7 @@ pub fn take_turn<B: Book, X: Exchange>(
     rules: &Rules<'_>,
     book: &mut B,
     exchange: &mut X,
+    is_silent: bool,
     out: &mut Outbox,
     served: &mut Served,
 )
@@ -90,11 +91,12 @@ pub fn take_turn<B: Book, X: Exchange>(
     ensures few { X.failure_count exchange.new ≤ X.failure_count exchange.old + 1 }
     ensures room { (n : ℕ) → AtMost n served.old → AtMost (n + 1) served.new }
     ensures events { served.new.events ≤ served.old.events + 1 }
+    ensures silent { is_silent ≡ true → served.new.events ≡ served.old.events }
     ensures turn { TakesTurn B.Book rules.now.oldest rules.now.config.now book.old book.new
         (X.told exchange.old) (X.told exchange.new) served.old served.new out.old.has_answered
         out.new.has_answered }
 {
-    match exchange.next() {
+    match exchange.next(is_silent) {
         Err(_) => served.faults += 1,
         Ok(None) => {}
         Ok(Some(event)) => {
@@ -114,12 +116,13 @@ pub fn take_turn<B: Book, X: Exchange>(
     }
 }
 
-/// Makes exactly `limit` turns, as `take_turn` makes one, and adds to the counts.
+/// Makes exactly `limit` turns, all silent or none, as `take_turn` makes one, and adds to the counts.
 pub fn take_turns<B: Book, X: Exchange>(
     alloc: Global,
     rules: &Rules<'_>,
     book: &mut B,
     exchange: &mut X,
+    is_silent: bool,
     limit: u64,
     out: &mut Outbox,
     served: &mut Served,
@@ -133,12 +136,13 @@ pub fn take_turns<B: Book, X: Exchange>(
     ensures few { X.failure_count exchange.new ≤ X.failure_count exchange.old + limit }
     ensures room { (n : ℕ) → AtMost n served.old → AtMost (n + limit) served.new }
     ensures events { served.new.events ≤ served.old.events + limit }
+    ensures silent { is_silent ≡ true → served.new.events ≡ served.old.events }
     ensures taken { TakesTurns B.Book rules.now.oldest rules.now.config.now book.old book.new
         (X.told exchange.old) (X.told exchange.new) served.old served.new out.old.has_answered
         out.new.has_answered }
 {
     for turn in 0..limit {
-        take_turn(alloc, rules, book, exchange, out, served);
+        take_turn(alloc, rules, book, exchange, is_silent, out, served);
     }
 }
 
@@ -182,6 +186,15 @@ pub fn serve<B: Book, X: Exchange>(
         config,
         oldest: None,
     };
-    take_turns(alloc, &rules, book, exchange, limit, &mut out, &mut served);
+    take_turns(
+        alloc,
+        &rules,
+        book,
+        exchange,
+        false,
+        limit,
+        &mut out,
+        &mut served,
+    );
     served
 }

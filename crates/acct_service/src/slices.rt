@@ -36,7 +36,7 @@ pub enum Until {
 }
 
 /// Makes `limit` turns, as `serve` does, in slices, and calls `rounds` after each slice. If that
-/// returns a configuration, the turns that follow have it.
+/// returns a configuration, the turns that follow have it. If it says so, they are silent.
 ///
 /// It ends early if the book returns no balance after a slice, because a shut book answers nobody
 /// any more. It also ends early if in a slice the book failed for every report that it could have
@@ -89,7 +89,17 @@ pub fn serve_in_slices<B: Book, X: Exchange, G: Rounds>(
         };
         let refused = served.drops_for(Reason::Unavailable);
         out.forget_answers();
-        take_turns(alloc, &site, book, exchange, slice, &mut out, &mut served);
+        let is_silent = rounds.is_silent();
+        take_turns(
+            alloc,
+            &site,
+            book,
+            exchange,
+            is_silent,
+            slice,
+            &mut out,
+            &mut served,
+        );
         left -= slice;
         let is_stuck = are_stuck(&out, &served, refused);
         changed = rounds.go_round(alloc, config, book).or(changed);

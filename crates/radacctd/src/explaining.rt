@@ -155,7 +155,7 @@ fn unopened<'a>(order: &'a Order) -> Option<Explained<'a>> {
 // The file of a job's book, if it has one.
 fn book_file(job: &Job) -> Option<&Text> {
     match job {
-        Job::Feed { .. } => None,
+        Job::Feed { .. } | Job::Key { .. } => None,
         Job::Check { database, .. } => database.as_ref(),
         Job::Book(paths, _) => Some(&paths.database),
     }
@@ -165,7 +165,7 @@ fn book_file(job: &Job) -> Option<&Text> {
 fn config_file(job: &Job) -> Option<&Text> {
     match job {
         Job::Feed { config } => config.as_ref(),
-        Job::Check { config, .. } => Some(config),
+        Job::Check { config, .. } | Job::Key { config, .. } => Some(config),
         Job::Book(paths, _) => Some(&paths.config),
     }
 }

@@ -9,6 +9,7 @@ use Rattle.acct_service.specs.declared.event.What.{What}
 use Rattle.acct_service.specs.declared.exchange.Fault.{Fault}
 use Rattle.acct_service.specs.declared.event.What.TheVariants as what
 use Rattle.acct_net.specs.declared.datagrams.RadiusSocket.{RadiusSocket}
+use Rattle.acct_net.specs.inner.Sent.{WasSent}
 
 -- a datagram may wait at the socket with this place, as far as is known
 abbrev pub MayReceiveAt : List RadiusSocket → ℕ → Type 0
@@ -53,24 +54,25 @@ abbrev pub IsWokenAt : ℕ → List RadiusSocket → List RadiusSocket → Type 
 IsWokenAt place old new = MatchOption (slice_get old place) (new ≡ old)
     (λ socket. new ≡ slice_set old place (record socket { may_receive = true }))
 
--- the last datagram that the socket with this place sent has this size and went there
-abbrev pub HasSent : List RadiusSocket → ℕ → ℕ → SocketAddrV4 → Type 0
-HasSent sockets place size to =
+-- the last datagram that the socket with this place sent has these octets and went there
+abbrev pub HasSent : List RadiusSocket → ℕ → List ℕ → SocketAddrV4 → Type 0
+HasSent sockets place octets to =
     (socket : RadiusSocket) × (slice_get sockets place ≡ Some socket)
-    × (socket.sent ≡ Some (Ok size, to))
+    × (socket.sent ≡ Some (Ok (length octets), to)) × WasSent octets to
 
--- The socket with this place was to send a datagram there. The system took another size of it than
--- this, or failed.
-abbrev pub HasNotSent : List RadiusSocket → ℕ → ℕ → SocketAddrV4 → Type 0
-HasNotSent sockets place size to =
+-- The socket with this place was to send these octets there. The system took another size of them, or
+-- failed.
+abbrev pub HasNotSent : List RadiusSocket → ℕ → List ℕ → SocketAddrV4 → Type 0
+HasNotSent sockets place octets to =
     (socket : RadiusSocket) × (slice_get sockets place ≡ Some socket)
-    × ((outcome : Result ℕ Fault) × (socket.sent ≡ Some (outcome, to)) × (outcome ≢ Ok size))
+    × ((outcome : Result ℕ Fault) × (socket.sent ≡ Some (outcome, to))
+    × (outcome ≢ Ok (length octets))) × WasSent octets to
 
--- If these octets are a reply to a datagram, the socket with this place sent as many to whom it came
+-- If these octets are a reply to a datagram, the socket with this place sent them to whom it came
 -- from.
 abbrev pub IsSent : List RadiusSocket → ℕ → List ℕ → What → Type 0
 IsSent sockets place bytes (what.Datagram source port octets) =
-    (to : SocketAddrV4) × HasSent sockets place (length bytes) to
+    (to : SocketAddrV4) × HasSent sockets place bytes to
     × (source ≡ ipv4_octets (v4_ip to)) × (port ≡ v4_port to)
 IsSent sockets place bytes (what.Desk request) = ⊤
 
@@ -78,6 +80,6 @@ IsSent sockets place bytes (what.Desk request) = ⊤
 -- whom it came from, and the system did not take them all.
 abbrev pub IsUnsent : List RadiusSocket → List RadiusSocket → ℕ → List ℕ → What → Type 0
 IsUnsent old new place bytes (what.Datagram source port octets) = IsSome (slice_get old place)
-    → (to : SocketAddrV4) × HasNotSent new place (length bytes) to
+    → (to : SocketAddrV4) × HasNotSent new place bytes to
     × (source ≡ ipv4_octets (v4_ip to)) × (port ≡ v4_port to)
 IsUnsent old new place bytes (what.Desk request) = ⊤

@@ -12,4 +12,5 @@ returns c =
     let export = c.with_command-program-6.ensures _ _ import c.export_command.ensures refl in
     let migrate = c.with_command-program-7.ensures _ _ export c.migrate_command.ensures refl in
     let plans = c.with_command-program-8.ensures _ _ migrate c.plans_command.ensures refl in
-    c.with_command.ensures _ _ plans c.forward_command.ensures refl
+    let forward = c.with_command-program-9.ensures _ _ plans c.forward_command.ensures refl in
+    c.with_command.ensures _ _ forward c.key_command.ensures refl

@@ -5,7 +5,7 @@ pub returns-in-Ok-clause-does : goal.returns-in-Ok-clause-does
 returns-in-Ok-clause-does g c text = inr (rw (
   ← c.server_of-server.ensures.serving,
   ← c.server_of-server.ensures.file,
-) c.work_on.ensures.does)
+) (rw c.server_of-server.ensures.text at c.work_on.ensures.does))
 
 pub returns-in-Err-clause-does : goal.returns-in-Err-clause-does
 returns-in-Err-clause-does g c text = inl (record {

@@ -5,6 +5,7 @@ pub returns-clause-begins : goal.returns-clause-begins
 returns-clause-begins g c = λ named path same is_named.
     let (moment, reads, keeps) = c.write_first.ensures.keeps in
     rw c.new.ensures.whole (record {
+      text = c.write_first.ensures.same;
       moment = moment;
       reads = reads;
       keeps = kept_first _ named c.args.balances c.write_first.new.balances moment same keeps;

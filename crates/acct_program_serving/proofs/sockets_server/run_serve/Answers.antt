@@ -1,13 +1,11 @@
-use Rattle.std.proofs.Common.{inr, refl, subst, sym, ◌∙◌}
+use Rattle.std.proofs.Common.{inr, refl}
 use Rattle.acct_program_commands.specs.RoundStates.{state_of}
-use Rattle.acct_program_serving.specs.Serving.{IsBoundTo}
 use Rattle.acct_program_serving.proofs.HandedOn.{ends_afresh, rounds_after}
 use Rattle.acct_program_serving.proofs.sockets_server.run_serve.Goals as goal
 
 pub returns-clause-serves : goal.returns-clause-serves
 returns-clause-serves g c =
-    let bound = c.in_ok-bound.ensures in
-    let same = c.silenced_by-sockets.ensures in
+    let bound = c.in_ok-sockets.ensures in
     let names = c.in_ok-names.ensures in
     let files = c.in_ok-files.ensures in
     let served = rw c.seconds_in-oldest.ensures at c.serve-sockets.ensures in
@@ -18,17 +16,13 @@ returns-clause-serves g c =
       c.status_of.ensures.status,
       (
         c.serve-sockets.result.0,
-        ends_afresh _ _ _ _ _ _ _ _ _ _ _ _ _ _
+        ends_afresh _ _ _ _ _ _ _ _ _ _ _ _ _ _ _
             begins _
             (λ slices went. rounds_after _ g.R.ReplacesFiles.was_put _
-            (state_of g.S.SiteSource.polls g.S.SiteSource.moments) (λ _ _ _ _ goes. goes)
-            (λ _ _ _ _ _ shows. shows) c.first_rounds-begun.result slices
+            (state_of g.S.SiteSource.file g.S.SiteSource.polls g.S.SiteSource.moments)
+            (λ _ _ _ _ goes. goes) (λ _ _ _ _ _ shows. shows) (λ _. refl) c.first_rounds-begun.result slices
             c.serve-sockets.new.rounds went)
-            c.first_rounds-begun.ensures.looks _ _ (
-              subst (λ loop. IsBoundTo c.args.serving.now.listening loop.datagrams.sockets.items
-                  loop.desk.door.address loop.desk.door.port) (sym same.sockets) bound.bound,
-              rw same.silenced refl,
-            )
-            (same.counts.0 ∙ bound.fresh.0) (same.counts.1 ∙ bound.fresh.1) _ _ _ served,
+            c.first_rounds-begun.ensures.looks _ _ bound.bound bound.fresh.0 bound.fresh.1 _ _ _
+            served,
       ),
     )

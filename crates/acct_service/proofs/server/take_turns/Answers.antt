@@ -1,4 +1,4 @@
-use Rattle.std.proofs.Common.{◌+◌, ◌-◌, ◌^◌, arith}
+use Rattle.std.proofs.Common.{◌+◌, ◌-◌, ◌^◌, arith, refl, ◌∙◌}
 use Rattle.acct_service.proofs.Visits.{at_most_greater, turns_none, turns_more}
 use Rattle.acct_service.proofs.server.take_turns.Goals as goal
 
@@ -10,6 +10,7 @@ loop-turn-init g c =
       turns = omega arith;
       faults = omega arith;
       events = omega arith;
+      silent = λ is. refl;
       few = omega arith;
       room = λ n most. at_most_greater n (n + 0) c.args.served.now (omega arith) most;
       taken = turns_none b c.args.rules.now.oldest c.args.rules.now.config.now c.args.book.now (x.told c.args.exchange.now)
@@ -27,6 +28,7 @@ loop-turn-preserved g c =
       faults = omega (arith, before.faults, turn.faults);
       few = omega (arith, before.few, turn.few);
       events = omega (arith, before.events, turn.events);
+      silent = λ is. turn.silent is ∙ before.silent is;
       room = λ n most. at_most_greater (n + c.loop-turn.turn + 1) (n + (c.loop-turn.turn + 1))
           c.take_turn.new.served (omega arith)
           (turn.room (n + c.loop-turn.turn) (before.room n most));

@@ -1,4 +1,4 @@
-use Rattle.std.proofs.Common.{◌≡◌, ◌+◌, ◌≤◌, ℕ}
+use Rattle.std.proofs.Common.{◌≡◌, ◌+◌, ◌≤◌, ℕ, true}
 use Rattle.acct_service.specs.Serving.{TakesTurns, AtMost}
 use Rattle.acct_service.proofs.server.take_turns.Given as goal
 
@@ -11,6 +11,7 @@ invariant-loop-turn g l =
       faults : x.failure_count l.exchange + l.fn.served.faults
           ≡ x.failure_count l.fn.exchange + l.served.faults;
       events : l.served.events ≤ l.fn.served.events + l.turn;
+      silent : l.is_silent ≡ true → l.served.events ≡ l.fn.served.events;
       few : x.failure_count l.exchange ≤ x.failure_count l.fn.exchange + l.turn;
       room : (n : ℕ) → AtMost n l.fn.served → AtMost (n + l.turn) l.served;
       taken : TakesTurns b l.rules.oldest l.rules.config.now l.fn.book l.book (x.told l.fn.exchange) (x.told l.exchange)

@@ -1,4 +1,4 @@
-use Rattle.std.proofs.Common.{refl}
+use Rattle.std.proofs.Common.{◌∙◌}
 use Rattle.acct_program_commands.specs.Rounds.{file_of}
 use Rattle.acct_program_commands.proofs.Placed.{keeps_known, keeps_some}
 use Rattle.acct_program_commands.proofs.file_rounds.FileRoundsRounds.go_round.Goals as goal
@@ -12,8 +12,9 @@ returns-clause-goes g c = record {
       c.moment-moment.result (file_of c.args.self.now.balances) (file_of c.keep_at.new.balances)
       c.keep_at.ensures.keeps;
   looks = c.look_at.ensures;
-  alike = refl;
-  takes = rw c.moment-moment.ensures.unpolled at c.take_polled.ensures.takes;
+  same = c.take_polled.ensures.same ∙ c.moment-moment.ensures.same;
+  takes = rw (c.moment-moment.ensures.unpolled, c.moment-moment.ensures.same)
+      at c.take_polled.ensures.takes;
 }
 
 pub returns-clause-shows : goal.returns-clause-shows
@@ -25,6 +26,7 @@ returns-clause-shows g c = λ opened. record {
       c.moment-moment.result (file_of c.args.self.now.balances) (file_of c.keep_at.new.balances)
       c.keep_at.ensures.keeps opened;
   looks = c.look_at.ensures;
-  alike = refl;
-  takes = rw c.moment-moment.ensures.unpolled at c.take_polled.ensures.takes;
+  same = c.take_polled.ensures.same ∙ c.moment-moment.ensures.same;
+  takes = rw (c.moment-moment.ensures.unpolled, c.moment-moment.ensures.same)
+      at c.take_polled.ensures.takes;
 }
