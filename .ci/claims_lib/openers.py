@@ -101,7 +101,7 @@ GIVEN = {
     MAIN: "main order_of explain_wrong_words words_of",
     JOBS + "audit_job.rt": "audit_book audited_from",
     JOBS + "checking.rt": "check check_or_audit check_files check_book checked_from",
-    JOBS + "command.rt": "carry_out serve_files export exported",
+    JOBS + "command.rt": "carry_out do_book_job serve_files export exported",
     JOBS + "database.rt": "made adopted listed opened opened_anew emptied",
     JOBS + "making.rt": "make made_and_closed",
     JOBS + "plans_job.rt": "list_plans listed_from",
@@ -144,12 +144,7 @@ BY_EYE = (
         "it keeps beside the socket what the system gave: the size and the source of a datagram,"
         " none, or a fault",
     ),
-    (
-        "crates/acct_net/src/datagrams.rt",
-        "RadiusSocket::send",
-        "and so the outcome of a send, and where to",
-    ),
-    ("crates/acct_net/src/datagrams.rt", "send_waiting", "it sends the octets that it is given"),
+    (DATAGRAMS, "send_waiting", "it sends the octets that it is given, and says how that ended"),
 )
 MOST_BY_EYE = 239
 MOST_OF_CHANGES = 120

@@ -252,13 +252,12 @@ impl RadiusSocket {
         self.received
     }
 
-    // Sends a datagram. The outcome, and where to, is kept beside the socket: no contract of the
-    // system says so, and what is made of it above is a clause.
+    // Sends a datagram. The outcome, and where to, is kept beside the socket.
     fn send(&mut self, bytes: &[u8], to: SocketAddrV4) -> Result<usize, Fault>
         ensures kept { self.new ≡ record self.old { sent = Some (result, to) } }
-        ensures sent { WasSent bytes.now to }
+        ensures sent { WasSent bytes.now to result }
     {
-        let sent = send_waiting(&self.udp, bytes, to).map_err(|_| Fault);
+        let sent = send_waiting(&self.udp, bytes, to);
         self.sent = Some((sent, to));
         sent
     }
@@ -267,17 +266,17 @@ impl RadiusSocket {
 // Sends a datagram. If the system has no space for it now, this waits until it has.
 // No contract of the system says what leaves: this is read by eye.
 #[tactic(auto, unfolding(crate::specs::inner::Sent::WasSent))]
-fn send_waiting(udp: &UdpSocket, bytes: &[u8], to: SocketAddrV4) -> io::Result<usize>
-    ensures { WasSent bytes.now to }
+fn send_waiting(udp: &UdpSocket, bytes: &[u8], to: SocketAddrV4) -> Result<usize, Fault>
+    ensures { WasSent bytes.now to result }
 {
     match udp.send_to(bytes, to) {
         Err(error) if error.kind() == ErrorKind::WouldBlock => {
-            udp.set_nonblocking(false)?;
-            let sent = udp.send_to(bytes, to);
-            udp.set_nonblocking(true)?;
+            udp.set_nonblocking(false).map_err(|_| Fault)?;
+            let sent = udp.send_to(bytes, to).map_err(|_| Fault);
+            udp.set_nonblocking(true).map_err(|_| Fault)?;
             sent
         }
-        sent => sent,
+        sent => sent.map_err(|_| Fault),
     }
 }
 

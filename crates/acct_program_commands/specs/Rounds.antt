@@ -12,9 +12,9 @@ use Rattle.acct_program_commands.specs.declared.balances_file.KeptBalances.{Kept
 use Rattle.acct_program_commands.specs.declared.book_names.BookNames.{BookNames}
 use Rattle.acct_program_commands.specs.declared.fresh_file.FreshFile.{FreshFile}
 
--- What a round goes on from: the file of the text, if it is in one, what its polls and the clock have
--- shown, the file of balances, if there is one, and what is known of the book's names, if they are
--- looked at.
+-- What a round goes on from: the file of the text, if it is in one, what its polls and the clock
+-- have shown, the file of balances, if there is one, and what is known of the book's names, if they
+-- are looked at.
 pub record RoundState : Type 0 where
   pub file : Option (List ℕ)
   pub polls : Option (List Poll)

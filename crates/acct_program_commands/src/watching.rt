@@ -8,8 +8,8 @@
 //! 3. The moment of a turn is that of its event, or the clock's if it has none. The clock is not
 //!    read if nothing is logged or written.
 //! 4. A line that cannot be written is lost, and changes nothing else.
-ghost use Rattle.std.specs.Prelude.{◌≡◌, ◌++◌, ◌∷◌, [], ℕ, Option, OnOk, replicate, None, IfOk, true, false};
-ghost use Rattle.std.specs.Prelude.{◌<◌, ◌^◌, ◌+◌, ◌-◌, is_ok};
+ghost use Rattle.std.specs.Prelude.{◌≡◌, ◌++◌, ◌∷◌, [], ℕ, Option, OnOk, replicate, None, false};
+ghost use Rattle.std.specs.Prelude.{◌<◌, ◌^◌, ◌+◌, ◌-◌, IfOk, is_ok, true};
 ghost use Rattle.std.specs.Io.KnownBytes.{Appends};
 ghost use Rattle.acct_service.specs.Told.{CountsFault, Grows, given, sent, drop_told};
 ghost use Rattle.acct_program_commands.specs.Told.{WritesDrop, minute_text};

@@ -112,7 +112,8 @@ module _ {D : Type 0} {g : disk.Ghosts D} {X : Type 0} (image : Image)
         let same = (over first).content_is
         ∙ ap content_in_tables (∥∥₁_elim held.holds (Trees-set _ _)
         (book.held.holds held.held)) in
-        right (Some file) None None name serving config printed after result first last before worked.did
+        right (Some file) None None name serving config printed after result first last before
+        worked.did
         ((over first).open_is.1 book.settled)
         (subst (λ c. Stands config.plans c before) (sym same) held.stands) sound;
   }
@@ -120,7 +121,8 @@ module _ {D : Type 0} {g : disk.Ghosts D} {X : Type 0} (image : Image)
   -- a run whose book was closed into these files
   closed : (config : Config) (ended : Status) (files : Files D)
       → Closes image config.plans (Serves image b x IsBound printed after file name serving config)
-      ended files → ClosedRightly image b x IsBound printed after file name serving config ended files
+      ended files
+      → ClosedRightly image b x IsBound printed after file name serving config ended files
   closed config ended files closes =
       let last = closes.last in
       let it = ran config (Ok ended) last closes.worked in
@@ -131,8 +133,8 @@ module _ {D : Type 0} {g : disk.Ghosts D} {X : Type 0} (image : Image)
             let copied = closes.copied clean in
             let sound = (over last).sound_is.1 copied.was_clean in
             let opened = is_open config it.first last ended it.run more sound in
-            let so_far = accepted before (visits_by image b x IsBound printed after file name serving
-            config (Ok ended) it.first last it.run) in
+            let so_far = accepted before (visits_by image b x IsBound printed after file name
+            serving config (Ok ended) it.first last it.run) in
             let same = (over last).content_is
             ∙ ap (λ (d : Database). content_in_tables d.trees) ((over last).open_is.0 opened).1 in
             let right = it.right before held sound in
@@ -192,7 +194,8 @@ files_right {D} {g} image b x IsBound right over text printed after file name se
       read,
       status,
       is,
-      closed image b x IsBound right over printed after file name serving config status files closes,
+      closed image b x IsBound right over printed after file name serving config status files
+          closes,
     )
 files_right {D} {g} image b x IsBound right over text printed after file name serving ended rest
     (inr (inr (told, is, (inl none)))) =

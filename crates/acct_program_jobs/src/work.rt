@@ -173,7 +173,8 @@ impl<R: ReadsFiles + Clock, W: Write, E: Write + Drop> Work<W> for Server<'_, R,
         ⟦<Sockets<'static, HostRuntime> as Exchange>⟧
         ⟦<HostRuntime as ReplacesFiles>⟧.was_put
         (IsBoundTo it.serving.now.listening)
-        (Some it.around.source.file.name.now) None None it.file.now it.serving.now config before after ended first last };
+        (Some it.around.source.file.name.now) None None it.file.now it.serving.now config before
+        after ended first last };
 
     fn over<B: Book>(
         self,

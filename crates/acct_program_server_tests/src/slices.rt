@@ -226,8 +226,8 @@ impl Rounds for Ending {
     }
 }
 
-// How many events a server counts that is asked in each turn, how it ends whose third round ends the
-// run, and how many turns it made.
+// How many events a server counts that is asked in each turn, how it ends whose third round ends
+// the run, and how many turns it made.
 fn ended_by_a_round(alloc: Global) -> Result<(u64, Until, u64), Fail> {
     let config = site_of(alloc, OLD)?;
     let rules = Rules {

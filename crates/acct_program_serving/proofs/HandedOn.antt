@@ -118,7 +118,8 @@ however b oldest config old new told later Went Goes so limit made served why ru
 module _ {B X : Type 0} (b : book.Ghosts B) (x : exchange.Ghosts X)
     (Put : List ℕ → List ℕ → Type 0) (IsBound : X → Type 0)
     (file : Option (List ℕ)) (polls : Option (List Poll)) (moments : Option (List ℕ))
-    (path : List ℕ) (serving : Serving) (known then : RoundState) (config : Config) (before_all old new : B)
+    (path : List ℕ) (serving : Serving) (known then : RoundState) (config : Config)
+    (before_all old new : B)
     (begins : Begins (λ name. PutsBalances (Put name) (b.content before_all)
     (b.is_open old)) serving.telling.balances file polls moments path known)
     (Went : List Slice → Type 0)
@@ -157,8 +158,8 @@ module _ {B X : Type 0} (b : book.Ghosts B) (x : exchange.Ghosts X)
   pub ends_afresh : (before after : Option (List ℕ)) (ended : Ended)
       → EndsOver b x (seconds_of serving.oldest_report) config serving.turns Went old new first last
       before after ended
-      → EndsAfresh b x Put IsBound file polls moments path serving config before_all new last before after
-      ended
+      → EndsAfresh b x Put IsBound file polls moments path serving config before_all new last
+      before after ended
   ends_afresh before after ended ends = record {
     begun = old;
     looked = looked;

@@ -71,12 +71,13 @@ module _ {B X : Type 0} (b : book.Ghosts B) (x : exchange.Ghosts X)
 
   module _ (Put : List ℕ → List ℕ → Type 0) (IsBound : X → Type 0)
       (text : Option (List ℕ)) (polls : Option (List Poll)) (moments : Option (List ℕ))
-      (file : List ℕ) (serving : Serving) (config : Config) (printed after : Option (List ℕ)) (old new : B) where
+      (file : List ℕ) (serving : Serving) (config : Config) (printed after : Option (List ℕ))
+      (old new : B) where
     ended_right : (last : X) (ended : Ended) (before : History)
         (it : EndsAfresh b x Put IsBound text polls moments file serving config old new last printed
         after ended) → BeganWith b config.plans before old → b.is_sound new
-        → EveryBalanceIsRight b config.plans before (visits_at b x Put IsBound text polls moments file
-        serving config printed after old new last ended it) new
+        → EveryBalanceIsRight b config.plans before (visits_at b x Put IsBound text polls moments
+        file serving config printed after old new last ended it) new
     ended_right last (how.Told served why) before it began sound =
         let run = it.ends.0.run in
         after_look config.plans before (visits_in run.slices) old it.begun new _ _ it.looked
@@ -102,5 +103,5 @@ module _ {B X : Type 0} (b : book.Ghosts B) (x : exchange.Ghosts X)
         (subst (λ (one : B). b.is_sound one) same sound))
     serves_rightly Put IsBound text polls moments file serving config printed after result old new
         before (inr (ended, is, (last, it))) opened stood sound =
-        ended_right Put (IsBound serving.listening) text polls moments file serving config printed after
-        old new last ended before it (begins config.plans before old opened stood) sound
+        ended_right Put (IsBound serving.listening) text polls moments file serving config printed
+        after old new last ended before it (begins config.plans before old opened stood) sound

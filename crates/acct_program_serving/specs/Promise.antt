@@ -33,7 +33,8 @@ module _ {B X : Type 0} (b : book.Ghosts B) (x : exchange.Ghosts X)
 
   -- the visits of the command: none if its sockets could not be bound
   abbrev pub visits_of : (result : Result Status Fault)
-      → RunsServer b x Put IsBound text polls moments file serving config printed after result old new
+      → RunsServer b x Put IsBound text polls moments file serving config printed after result old
+      new
       → List Visit
   visits_of result (inl unbound) = []
   visits_of result (inr (ended, is, (last, afresh))) = visits_at last ended afresh
@@ -43,7 +44,8 @@ module _ {B X : Type 0} (b : book.Ghosts B) (x : exchange.Ghosts X)
 abbrev pub ServesRightly : {B X : Type 0} → book.Ghosts B → exchange.Ghosts X
     → (List ℕ → List ℕ → Type 0) → (Listening → X → Type 0) → Type 0
 ServesRightly {B} b x Put IsBound = (text : Option (List ℕ)) (polls : Option (List Poll))
-    (moments : Option (List ℕ)) (file : List ℕ) (serving : Serving) (config : Config) (printed after : Option (List ℕ))
+    (moments : Option (List ℕ)) (file : List ℕ) (serving : Serving) (config : Config)
+    (printed after : Option (List ℕ))
     (result : Result Status Fault) (old new : B) (before : History)
     (run : RunsServer b x Put (IsBound serving.listening) text polls moments file serving config
     printed after result old new)

@@ -180,8 +180,8 @@ rounds_more r is_open first then last [] slice same goes_on silent goes shows = 
   λ none. absurd (none refl),
   refl,
 )
-rounds_more r is_open first then last (one ∷ []) slice (quiet, next, went, shown, only, same) goes_on
-    silent goes shows = (
+rounds_more r is_open first then last (one ∷ []) slice (quiet, next, went, shown, only, same)
+    goes_on silent goes shows = (
       quiet,
       next,
       went,
@@ -190,8 +190,8 @@ rounds_more r is_open first then last (one ∷ []) slice (quiet, next, went, sho
       rounds_more r is_open next then last [] slice same (λ none. absurd (none refl)) silent goes
           shows,
     )
-rounds_more r is_open first then last (one ∷ second ∷ later) slice (quiet, next, went, shown, on, rest)
-    goes_on silent goes shows = (
+rounds_more r is_open first then last (one ∷ second ∷ later) slice
+    (quiet, next, went, shown, on, rest) goes_on silent goes shows = (
       quiet,
       next,
       went,
@@ -438,7 +438,8 @@ module _ {B R : Type 0} (b : book.Ghosts B) (r : rounds.Ghosts R) (oldest : Opti
       (sym (site_kept config changed gave))
       (subst (λ m. Reached old new told last first after then m is why) (sym all_is)
       (reached_more old mid turned new told later last first before after now made turns_made was is
-      had has gave why few events reached taken silent ended on opened (looks_twice b turned looked new looks again)
+      had has gave why few events reached taken silent ended on opened
+      (looks_twice b turned looked new looks again)
       (subst (λ (c : Config). IfSome gave (λ other. other.plans ≡ c.plans)) found plans)
       (subst (λ c. r.goes before c gave after) found goes)
       (λ still. subst (λ c. r.shows before c (b.content turned) gave after) found

@@ -125,7 +125,8 @@ SlicesStand {B} b = (plans : List Plan) (slices : List Slice) (old new : B)
 abbrev pub GoRounds : {R : Type 0} → rounds.Ghosts R → Type 0 → R → List Slice → R → Type 0
 GoRounds r is_open first [] last = first ≡ last
 GoRounds r is_open first (slice ∷ later) last =
-    (r.is_silent first ≡ true → slice.visits ≡ []) × (next : _) × r.goes first slice.site slice.given next
+    (r.is_silent first ≡ true → slice.visits ≡ []) × (next : _)
+    × r.goes first slice.site slice.given next
     × (is_open → r.shows first slice.site slice.content slice.given next)
     × (later ≢ [] → r.is_over next ≡ false) × GoRounds r is_open next later last
 

@@ -31,6 +31,6 @@ pub use exchange::{Asked, Call, Exchange, Fault};
 pub use outbox::Outbox;
 pub use rounds::{NoRounds, Rounds};
 pub use rules::Rules;
-pub use server::{Served, serve, take_turn, take_turns};
+pub use server::{Served, Turns, serve, take_turn, take_turns};
 pub use slices::{Until, serve_in_slices};
 pub use stepping::{Turn, step, step_within};

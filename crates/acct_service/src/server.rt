@@ -63,9 +63,9 @@ impl Served {
     }
 }
 
-/// Makes one turn, silent or not: one `next`, and at most one `step_within` and one `reply` or `note_drop`. An event
-/// is answered and counted. A fault is counted too. An entry that was recorded stays recorded if its
-/// reply fails.
+/// Makes one turn, silent or not: one `next`, and at most one `step_within` and one `reply` or
+/// `note_drop`. An event is answered and counted. A fault is counted too. An entry that was
+/// recorded stays recorded if its reply fails.
 ///
 /// Turns join (`laws::turns_join`), so all that `serve` ensures at its end holds after each of its
 /// turns. A kill may fall there: what a crash then leaves has every entry that was answered. A kill
@@ -116,33 +116,41 @@ pub fn take_turn<B: Book, X: Exchange>(
     }
 }
 
-/// Makes exactly `limit` turns, all silent or none, as `take_turn` makes one, and adds to the counts.
+/// Turns of a server.
+#[derive(Clone, Copy, PartialEq, Eq, Debug)]
+pub struct Turns {
+    /// How many there are.
+    pub count: u64,
+    /// Whether nobody is heard in them.
+    pub is_silent: bool,
+}
+
+/// Makes exactly so many turns, as `take_turn` makes one, and adds to the counts.
 pub fn take_turns<B: Book, X: Exchange>(
     alloc: Global,
     rules: &Rules<'_>,
     book: &mut B,
     exchange: &mut X,
-    is_silent: bool,
-    limit: u64,
+    turns: Turns,
     out: &mut Outbox,
     served: &mut Served,
 )
-    requires turns { X.turn_count exchange.old + limit ≤ 2 ^ 64 - 1 }
-    requires failures { X.failure_count exchange.old + limit ≤ 2 ^ 64 - 1 }
-    requires room { AtMost (2 ^ 64 - 1 - limit) served.old }
-    ensures turns { X.turn_count exchange.new ≡ X.turn_count exchange.old + limit }
+    requires turns { X.turn_count exchange.old + turns.count ≤ 2 ^ 64 - 1 }
+    requires failures { X.failure_count exchange.old + turns.count ≤ 2 ^ 64 - 1 }
+    requires room { AtMost (2 ^ 64 - 1 - turns.count) served.old }
+    ensures turns { X.turn_count exchange.new ≡ X.turn_count exchange.old + turns.count }
     ensures faults { X.failure_count exchange.new + served.old.faults
         ≡ X.failure_count exchange.old + served.new.faults }
-    ensures few { X.failure_count exchange.new ≤ X.failure_count exchange.old + limit }
-    ensures room { (n : ℕ) → AtMost n served.old → AtMost (n + limit) served.new }
-    ensures events { served.new.events ≤ served.old.events + limit }
-    ensures silent { is_silent ≡ true → served.new.events ≡ served.old.events }
+    ensures few { X.failure_count exchange.new ≤ X.failure_count exchange.old + turns.count }
+    ensures room { (n : ℕ) → AtMost n served.old → AtMost (n + turns.count) served.new }
+    ensures events { served.new.events ≤ served.old.events + turns.count }
+    ensures silent { turns.is_silent ≡ true → served.new.events ≡ served.old.events }
     ensures taken { TakesTurns B.Book rules.now.oldest rules.now.config.now book.old book.new
         (X.told exchange.old) (X.told exchange.new) served.old served.new out.old.has_answered
         out.new.has_answered }
 {
-    for turn in 0..limit {
-        take_turn(alloc, rules, book, exchange, is_silent, out, served);
+    for turn in 0..turns.count {
+        take_turn(alloc, rules, book, exchange, turns.is_silent, out, served);
     }
 }
 
@@ -186,15 +194,10 @@ pub fn serve<B: Book, X: Exchange>(
         config,
         oldest: None,
     };
-    take_turns(
-        alloc,
-        &rules,
-        book,
-        exchange,
-        false,
-        limit,
-        &mut out,
-        &mut served,
-    );
+    let turns = Turns {
+        count: limit,
+        is_silent: false,
+    };
+    take_turns(alloc, &rules, book, exchange, turns, &mut out, &mut served);
     served
 }

@@ -10,7 +10,7 @@ use crate::exchange::Exchange;
 use crate::outbox::Outbox;
 use crate::rounds::Rounds;
 use crate::rules::Rules;
-use crate::server::{Served, take_turns};
+use crate::server::{Served, Turns, take_turns};
 use acct_book::Book;
 use acct_site::Config;
 use acct_wire::Reason;
@@ -89,17 +89,11 @@ pub fn serve_in_slices<B: Book, X: Exchange, G: Rounds>(
         };
         let refused = served.drops_for(Reason::Unavailable);
         out.forget_answers();
-        let is_silent = rounds.is_silent();
-        take_turns(
-            alloc,
-            &site,
-            book,
-            exchange,
-            is_silent,
-            slice,
-            &mut out,
-            &mut served,
-        );
+        let turns = Turns {
+            count: slice,
+            is_silent: rounds.is_silent(),
+        };
+        take_turns(alloc, &site, book, exchange, turns, &mut out, &mut served);
         left -= slice;
         let is_stuck = are_stuck(&out, &served, refused);
         changed = rounds.go_round(alloc, config, book).or(changed);

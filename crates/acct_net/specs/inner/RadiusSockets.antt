@@ -58,15 +58,15 @@ IsWokenAt place old new = MatchOption (slice_get old place) (new ≡ old)
 abbrev pub HasSent : List RadiusSocket → ℕ → List ℕ → SocketAddrV4 → Type 0
 HasSent sockets place octets to =
     (socket : RadiusSocket) × (slice_get sockets place ≡ Some socket)
-    × (socket.sent ≡ Some (Ok (length octets), to)) × WasSent octets to
+    × (socket.sent ≡ Some (Ok (length octets), to)) × WasSent octets to (Ok (length octets))
 
--- The socket with this place was to send these octets there. The system took another size of them, or
--- failed.
+-- The socket with this place was to send these octets there. The system took another size of them,
+-- or failed.
 abbrev pub HasNotSent : List RadiusSocket → ℕ → List ℕ → SocketAddrV4 → Type 0
 HasNotSent sockets place octets to =
     (socket : RadiusSocket) × (slice_get sockets place ≡ Some socket)
     × ((outcome : Result ℕ Fault) × (socket.sent ≡ Some (outcome, to))
-    × (outcome ≢ Ok (length octets))) × WasSent octets to
+    × (outcome ≢ Ok (length octets)) × WasSent octets to outcome)
 
 -- If these octets are a reply to a datagram, the socket with this place sent them to whom it came
 -- from.

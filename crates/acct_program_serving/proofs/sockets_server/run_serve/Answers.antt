@@ -20,7 +20,8 @@ returns-clause-serves g c =
             begins _
             (λ slices went. rounds_after _ g.R.ReplacesFiles.was_put _
             (state_of g.S.SiteSource.file g.S.SiteSource.polls g.S.SiteSource.moments)
-            (λ _ _ _ _ goes. goes) (λ _ _ _ _ _ shows. shows) (λ _. refl) c.first_rounds-begun.result slices
+            (λ _ _ _ _ goes. goes) (λ _ _ _ _ _ shows. shows) (λ _. refl)
+            c.first_rounds-begun.result slices
             c.serve-sockets.new.rounds went)
             c.first_rounds-begun.ensures.looks _ _ bound.bound bound.fresh.0 bound.fresh.1 _ _ _
             served,

@@ -45,7 +45,7 @@ take_turn-requires-clause-failures g c =
 
 pub take_turn-requires-clause-room : goal.take_turn-requires-clause-room
 take_turn-requires-clause-room g c = at_most_greater _ _ c.loop-turn.served (omega arith)
-    (c.loop-turn.invariant.room (2 ^ 64 - 1 - c.args.limit) c.requires.room)
+    (c.loop-turn.invariant.room (2 ^ 64 - 1 - c.args.turns.count) c.requires.room)
 
 pub returns-clause-room : goal.returns-clause-room
 returns-clause-room g c n most = at_most_greater _ _ c.loop-turn.served (omega arith)

@@ -11,7 +11,7 @@ invariant-loop-turn g l =
       faults : x.failure_count l.exchange + l.fn.served.faults
           ≡ x.failure_count l.fn.exchange + l.served.faults;
       events : l.served.events ≤ l.fn.served.events + l.turn;
-      silent : l.is_silent ≡ true → l.served.events ≡ l.fn.served.events;
+      silent : l.turns.is_silent ≡ true → l.served.events ≡ l.fn.served.events;
       few : x.failure_count l.exchange ≤ x.failure_count l.fn.exchange + l.turn;
       room : (n : ℕ) → AtMost n l.fn.served → AtMost (n + l.turn) l.served;
       taken : TakesTurns b l.rules.oldest l.rules.config.now l.fn.book l.book (x.told l.fn.exchange) (x.told l.exchange)

@@ -60,7 +60,7 @@ returns-in-Some-clause-serves g c =
       c.min-slice.ensures,
     )) found (omega (arith, c.min-slice.ensures, c.loop-left.invariant.left))
     turns.events c.loop-left.invariant.reached taken
-    (λ is. turns.silent (c.is_silent-is_silent.ensures ∙ is)) ends
+    (λ is. turns.silent (c.is_silent.ensures ∙ is)) ends
     (λ is. absurd (c.ending.ensures.early (c.in-Some.is ∙ ap (λ it. Some it) is)))
     (λ is. absurd (c.ending.ensures.early (c.in-Some.is ∙ ap (λ it. Some it) is)))
     c.go_round.ensures.looks c.go_round.ensures.plans c.go_round.ensures.goes
@@ -90,7 +90,7 @@ loop-left-preserved g c =
     c.take_turns.new.served _ _ until.AllMade
     (omega (arith, before.left, c.min-slice.ensures)) found (omega (arith, c.min-slice.ensures, c.loop-left.invariant.left))
     turns.events before.reached taken
-    (λ is. turns.silent (c.is_silent-is_silent.ensures ∙ is)) not
+    (λ is. turns.silent (c.is_silent.ensures ∙ is)) not
     (λ is. (c.ending.ensures.goes_on c.in_default.is).1)
     (λ is. c.ending.ensures.open c.in_default.is) c.go_round.ensures.looks
     c.go_round.ensures.plans c.go_round.ensures.goes c.go_round.ensures.shows
