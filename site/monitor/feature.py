@@ -1,1 +1,1 @@
-"""Monitoring adds files for Prometheus and Grafana: the README says where each goes."""
+"""Monitoring adds a file of rules for Prometheus: the README says where it goes."""

@@ -1,11 +1,11 @@
 #!/usr/bin/python3
-"""The alerts and the board over the counts of the built program, by Debian's promtool.
+"""The alerts over the counts of the built program, by Debian's promtool.
 
     RADACCTD=.../radacctd site/monitor/live.py
 
 Each alert fires in a case that promtool plays, and another machine beside it raises none. Each
-count that a rule, the board or the page names is one that the program writes. It needs Debian's
-prometheus and freeradius-utils. It ends with 0 if all is as it should be, else with 1.
+count that a rule or the page names is one that the program writes. It needs Debian's prometheus and
+freeradius-utils. It ends with 0 if all is as it should be, else with 1.
 """
 
 import json
@@ -24,7 +24,7 @@ sys.path.insert(0, os.path.join(ROOT, "interop"))
 import served
 from served import Server, check, report
 
-RULES, BOARD, PAGE = (f"{HERE}/{it}" for it in ("radacctd.rules.yml", "grafana.json", "README.md"))
+RULES, PAGE = (f"{HERE}/{it}" for it in ("radacctd.rules.yml", "README.md"))
 FIRING = 'count by (alertname, instance) (ALERTS{alertstate="firing"})'
 FILE = 'node_textfile_mtime_seconds{file="/counts/radacctd.prom"}'
 UNIT = 'node_systemd_unit_state{name="radacctd-%s.service",state="%s"}'
@@ -163,8 +163,8 @@ def main():
     status, told = run("promtool", "check", "metrics", input=text)
     check("promtool takes the counts that the program wrote", (status, told), (0, ""))
     written = set(re.findall(r"(?m)^# TYPE (\S+) ", text))
-    named = set(re.findall(r"\bradacctd_\w+", text_of(RULES) + text_of(BOARD)))
-    check("the program writes each that a rule or the board names", sorted(named - written), [])
+    named = set(re.findall(r"\bradacctd_\w+", text_of(RULES)))
+    check("the program writes each that a rule names", sorted(named - written), [])
     shown = set(re.findall(r"`(radacctd_\w+)`", text_of(f"{ROOT}/docs/reference/metrics.md")))
     check("the page has those that it writes, and no other", sorted(shown ^ written), [])
     print("failed:", served.failures)
