@@ -1,9 +1,7 @@
 """The book's copy: its server stops, file and log are copied, it starts. Reports wait meanwhile."""
 
 import contextlib
-import fcntl
 import os
-import struct
 import subprocess
 import time
 
@@ -12,8 +10,6 @@ from radacctd_site.core import Failed, files, machine, places
 UNIT = "radacctd.service"
 # While this is there, the server was stopped for a copy: the unit starts it again after a kill.
 STOPPED = "/run/radacctd-copy.stopped"
-# Where SQLite locks the octets of a file that it has open.
-LOCK = struct.pack("hhqqi", fcntl.F_RDLCK, os.SEEK_SET, 1 << 30, 512, 0)
 
 
 @contextlib.contextmanager
@@ -37,21 +33,16 @@ def copy(folder):
     server stood still, or None.
     """
     begun = time.monotonic()
-    with stopped() as is_stopped, files.of_user(places.BOOK, places.SERVER_USER) as book:
-        try:
-            fcntl.fcntl(book, fcntl.F_OFD_SETLK, LOCK)
-        except OSError:
-            raise Failed(f"a process has {places.BOOK} open, and is not {UNIT}: stop it") from None
-        with contextlib.ExitStack() as stack:
-            found = {"book": book}
-            with contextlib.suppress(FileNotFoundError):
-                log = stack.enter_context(files.of_user(f"{places.BOOK}-wal", places.SERVER_USER))
-                found["book-wal"] = log
-            before = marks(found)
-            for name, file in found.items():
-                clone(file, f"{folder}/{name}")
-            if marks(found) != before:
-                raise Failed(f"{places.BOOK} was written meanwhile, and not by {UNIT}")
+    with stopped() as is_stopped, contextlib.ExitStack() as stack:
+        opened = lambda path: stack.enter_context(files.of_user(path, places.SERVER_USER))
+        found = {"book": opened(places.BOOK)}
+        with contextlib.suppress(FileNotFoundError):
+            found["book-wal"] = opened(f"{places.BOOK}-wal")
+        before = marks(found)
+        for name, file in found.items():
+            clone(file, f"{folder}/{name}")
+        if marks(found) != before:
+            raise Failed(f"{places.BOOK} was written meanwhile, and not by {UNIT}")
     return time.monotonic() - begun if is_stopped else None
 
 

@@ -1,23 +1,22 @@
-"""Copies the site, now or each night, lists the copies, and checks them.
+"""Copies the site, now or each night, and checks copies.
 
 A copy is a folder of /var/backups/radacctd, for root alone: the book with its log, site.db, users,
-configuration, secrets and certificates, with a list of them and their SHA-256 sums. radacctd stops
-while its book is copied, and FreeRADIUS keeps reports meanwhile. A copy gets its name once it was
-checked. `radacctl copy` alone makes one now, by radacctd-copy.service.
+configuration, secrets and certificates, with their SHA-256 sums. radacctd stops while its book is
+copied, and FreeRADIUS keeps reports meanwhile. A copy gets its name once it was checked.
+`radacctl copy` alone makes one now, by radacctd-copy.service.
 """
 
 import os
 import time
 
 from radacctd_site.core import Failed, machine
-from radacctd_site.copies import book, kept, places, taking
+from radacctd_site.copies import book, kept, taking
 
 UNIT = "radacctd-copy.service"
 
 
 def arguments(it):
     acts = it.add_subparsers(dest="act")
-    acts.add_parser("list", help="print each copy, the oldest first")
     check = acts.add_parser("check", help="see whether a copy is whole, and its book sound")
     check.add_argument("folder")
     acts.add_parser("make", help="what the unit does: make a copy, and remove old ones")
@@ -43,11 +42,7 @@ def main(words):
         now()
     elif words.act == "make":
         taking.night()
-    elif words.act == "check":
-        taken = kept.check(words.folder)["taken"]
-        when = time.strftime("%F %T", time.localtime(taken))
-        print(f"{words.folder} is as it was written, and its book is sound: of {when}")
     else:
-        for name in places.names():
-            print(f"{places.FOLDER}/{name}")
+        when = kept.check(words.folder)
+        print(f"{words.folder} is as it was written, and its book is sound: of {when}")
     return 0

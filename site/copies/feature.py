@@ -1,7 +1,7 @@
 """What copies add: two commands, the night's units, and the faults that they name."""
 
 COMMANDS = {
-    "copy": ("copies the site, lists and checks its copies", "copy_command"),
+    "copy": ("copies the site, and checks copies", "copy_command"),
     "restore": ("puts a copy back, on this machine or an empty one", "restore_command"),
 }
 EACH_NIGHT = "copy_command:now"

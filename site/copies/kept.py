@@ -1,67 +1,41 @@
-"""A copy: a folder with the book, its log, the stores, root's files, a list of these, and sums."""
+"""A copy: a folder with the book, its log, the stores, an archive of root's files, and sums."""
 
 import contextlib
 import hashlib
-import json
 import os
-import re
 import sqlite3
 import tempfile
 
 from radacctd_site.core import Failed, book as of_core, machine, places as of_kit, told
-from radacctd_site.copies import owners, places
+from radacctd_site.copies import places
 
-LIST, SUMS, FILES, DUMP = "copy.json", "SHA256SUMS", "files", "radius.sql"
+SUMS, ROOTS, DUMP = "SHA256SUMS", "root.tar", "radius.sql"
 # The folder of a book that is looked at begins so.
 LOOK = ".look-"
 # The plans of a book, and what is counted by its numbers.
 PLANS = ("SELECT class, block, unit, mode FROM price_plan JOIN plan_count USING (class) "
          "ORDER BY price_plan.rowid")
 COUNTS = ("both", "in", "out")
-LINE = re.compile(r"([0-9a-f]{64})  (.+)")
 
 
 class Unsound(Failed):
     """What is wrong with a copy."""
 
 
-def paths(folder):
-    """All files of a copy but that of the sums, by their names in it."""
-    found = (os.path.relpath(f"{top}/{it}", folder)
-             for top, _, names in os.walk(folder) for it in names)
-    return sorted(it for it in found if it != SUMS)
+def sums(folder):
+    """The sums of a copy's files, as sha256sum reads them."""
+    lines = []
+    for name in sorted({*os.listdir(folder)} - {SUMS}):
+        with open(f"{folder}/{name}", "rb") as file:
+            lines.append(f"{hashlib.file_digest(file, 'sha256').hexdigest()}  {name}\n")
+    return "".join(lines)
 
 
-def sum_of(path):
-    with open(path, "rb") as file:
-        return hashlib.file_digest(file, "sha256").hexdigest()
-
-
-def seal(folder):
-    """Writes the sums, as sha256sum reads them, and lets all of it outlive a power cut."""
-    lines = [f"{sum_of(f'{folder}/{it}')}  {it}\n" for it in paths(folder)]
+def seal(folder, when):
+    """Writes of which moment the copy is, and its sums, and lets all of it outlive a power cut."""
     with open(f"{folder}/{SUMS}", "x", encoding="utf-8") as file:
-        file.writelines(lines)
-    for top, _, names in os.walk(folder):
-        for it in (*(f"{top}/{name}" for name in names), top):
-            handle = os.open(it, os.O_RDONLY | os.O_NOFOLLOW)
-            os.fsync(handle)
-            os.close(handle)
-
-
-def listed(folder):
-    """What the copy says of itself, once all its files are as they were."""
-    try:
-        with open(f"{folder}/{SUMS}", encoding="utf-8") as file:
-            wanted = {it[2]: it[1] for it in map(LINE.fullmatch, file.read().splitlines()) if it}
-    except FileNotFoundError:
-        raise Unsound(f"{folder} has no {SUMS}: it is no whole copy") from None
-    found = {it: sum_of(f"{folder}/{it}") for it in paths(folder)}
-    wrong = sorted(it for it in {*wanted, *found} if wanted.get(it) != found.get(it))
-    if wrong or LIST not in wanted:
-        raise Unsound(f"{folder} is damaged: {(wrong or [LIST])[0]} is not as it was written")
-    with open(f"{folder}/{LIST}", encoding="utf-8") as file:
-        return json.load(file)
+        file.write(f"# {when}\n{sums(folder)}")
+    machine.given(["sync", "-f", folder])
 
 
 def plans_of(book):
@@ -88,14 +62,19 @@ def looked_at(folder):
 
 
 def check(folder):
-    """Fails unless each file is as it was written, the book is sound and balances, and so do the
-    stores. Returns what the copy says of itself.
+    """Fails unless each file is as it was written, and the book is sound and balances. Returns of
+    which moment the copy is.
     """
-    found = listed(folder)
+    try:
+        with open(f"{folder}/{SUMS}", encoding="utf-8") as file:
+            when, _, wanted = file.read().partition("\n")
+    except FileNotFoundError:
+        raise Unsound(f"{folder} has no {SUMS}: it is no whole copy") from None
+    if wrong := {*wanted.splitlines()} ^ {*sums(folder).splitlines()}:
+        name = min(it.partition("  ")[2] for it in wrong)
+        raise Unsound(f"{folder} is damaged: {name} is not as it was written")
     with looked_at(folder) as book:
         status, said = machine.run(of_kit.binary(), "check", *book, "--audit", seconds=86400)
-        if status:
-            raise Unsound(f"{folder}: the book is not sound: {machine.last_line(said)}")
-    for path in found["stores"]:
-        owners.check_store(f"{folder}/{FILES}{path}")
-    return found
+    if status:
+        raise Unsound(f"{folder}: the book is not sound: {machine.last_line(said)}")
+    return when.removeprefix("# ")

@@ -1,57 +1,51 @@
-"""How root reads and writes in a folder that another user may change: as that user, by pipes, or by
-the handle of a file that is that user's. So no name there leads root elsewhere, at any moment.
+"""How root reads and writes in a folder that another user may change: as that user, by pipes. So no
+name there leads root elsewhere, at any moment.
 """
 
-import contextlib
-import os
-import pwd
-import shutil
 import subprocess
 
-from radacctd_site.core import Failed, files, told
+from radacctd_site.core import Failed, files, machine
 
-PROGRAM = os.path.join(os.path.dirname(os.path.realpath(__file__)), "as_owner.py")
-PATH = {"PATH": "/usr/bin:/bin", "LC_ALL": "C.UTF-8"}
-NOBODY = "nobody"
+# Prints a store of SQLite that is sound, with the rows of its log, while its user writes on.
+PRINT = """
+import sqlite3, sys
+new = sqlite3.connect(":memory:")
+sqlite3.connect(f"file:{sys.argv[1]}?mode=ro", uri=True, timeout=60).backup(new)
+said = new.execute("PRAGMA integrity_check").fetchone()[0]
+if said != "ok":
+    sys.exit(f"PRAGMA integrity_check says {said}")
+sys.stdout.buffer.write(new.serialize())
+"""
+WRITE = 'umask 077; exec cat >"$1"'
+# A file loses its name first and gets it last: without it nothing takes a log for a book.
+RENAME = """
+set -e; path=$1 date=$2; shift 2
+for end; do sync "$path$end.new"; done
+for end in '' -wal -shm -journal; do
+    [ ! -e "$path$end" ] || mv -T "$path$end" "$path.before-$date$end"
+done
+for end; do mv -T "$path$end.new" "$path$end"; done
+sync -f "$path"
+"""
 
 
-@contextlib.contextmanager
-def running(user, *words):
-    """as_owner.py, as a user with no group but its own. Failed says what it said."""
-    with told(Failed, "is radacctd installed? ", KeyError):
-        how = {"user": user, "group": pwd.getpwnam(user).pw_gid, "extra_groups": [], "env": PATH}
-    with open(PROGRAM, encoding="utf-8") as file:
-        text = file.read()
-    pipe = subprocess.PIPE
-    with subprocess.Popen(["/usr/bin/python3", "-I", "-c", text, *words], cwd="/", stdin=pipe,
-                          stdout=pipe, stderr=pipe, start_new_session=True, **how) as it:
-        with contextlib.suppress(BrokenPipeError):
-            yield it
-        with contextlib.suppress(BrokenPipeError):
-            it.stdin.close()
-        said = it.stderr.read().decode("utf-8", "replace").strip().splitlines()
-    if it.returncode:
-        raise Failed(f"{' '.join(words[:2])} as {user}: {said[-1] if said else it.returncode}")
+def given(user, program, path, *more, source=subprocess.DEVNULL):
+    """What a program printed that a user ran with a path. Its input is a file that is open."""
+    done = subprocess.run([*machine.as_user(user), *program, path, *more], stdin=source,
+                          capture_output=True, cwd="/", env=machine.ENVIRONMENT)
+    if done.returncode:
+        why = machine.last_line(done.stderr.decode("utf-8", "replace"))
+        raise Failed(f"{path} as {user}: {why}")
+    return done.stdout
 
 
 def read_store(path, user, to):
-    """Writes a store into a file of root's while its user writes on."""
-    with open(to, "xb") as file, running(user, "print", path) as it:
-        shutil.copyfileobj(it.stdout, file)
+    files.make(to, given(user, ["python3", "-I", "-c", PRINT], path))
 
 
-def check_store(path):
-    """Whether SQLite finds a store sound, asked by a user who has nothing."""
-    with open(path, "rb") as file, running(NOBODY, "check") as it:
-        shutil.copyfileobj(file, it.stdin)
-
-
-def put(path, user, date, parts, rights):
+def put(path, user, date, parts):
     """Puts files into place, by their endings; what was there is PATH.before-DATE."""
-    words = [f"{end}:{os.stat(it).st_size}" for end, it in parts.items()]
-    with running(user, "put", path, date, *words) as it:
-        for source in parts.values():
-            with open(source, "rb") as file:
-                shutil.copyfileobj(file, it.stdin)
-    for end in parts:
-        files.give(path + end, user, *rights)
+    for end, source in parts.items():
+        with open(source, "rb") as file:
+            given(user, ["sh", "-c", WRITE, "sh"], f"{path}{end}.new", source=file)
+    given(user, ["sh", "-c", RENAME, "sh"], path, date, *sorted(parts, reverse=True))

@@ -1,13 +1,13 @@
-"""FreeRADIUS' users in a PostgreSQL database: what begins a command of PostgreSQL's for it."""
+"""FreeRADIUS' users, if they are in a PostgreSQL database: its pg_dump writes them."""
 
-import contextlib
-import os
 import re
-import tempfile
 
-from radacctd_site.core import files
+from radacctd_site.core import files, machine
 
 CONF = "/etc/radacctd-front/users.conf"
+OPTIONS = {"-h": "server", "-p": "port", "-U": "login", "-d": "radius_db"}
+# Each user sees a command line: so the password is in the input.
+DUMP = "IFS= read -r PGPASSWORD; export PGPASSWORD PGCONNECT_TIMEOUT=20; exec pg_dump -w \"$@\""
 
 
 def settings():
@@ -18,21 +18,21 @@ def settings():
     return found if found.get("dialect") == "postgresql" else {}
 
 
-@contextlib.contextmanager
-def connection(found):
-    """The beginning of a command, and its options. OSError if radius_db may have the password, too:
-    each user sees a command line.
-
-    The password is in a file in memory: a run that is killed leaves none on the disk.
-    """
-    names = {"-h": "server", "-p": "port", "-U": "login", "-d": "radius_db"}
-    options = [it for option, name in names.items() if found.get(name)
-               for it in (option, found[name])]
+def dump(to):
+    """Writes the database into a file: why it could not, or None."""
+    found = settings()
+    if not found:
+        return None
     if re.search("=|://", found.get("radius_db", "")):
-        raise OSError(f"radius_db of {CONF} is to be the name of a database alone, with server, "
-                      "login and password beside it")
-    password = re.sub(r"([:\\])", r"\\\1", found.get("password", ""))
-    with tempfile.TemporaryDirectory(dir="/run") as folder:
-        path = os.path.join(folder, "pgpass")
-        files.make(path, f"*:*:*:*:{password}\n".encode())
-        yield ["env", f"PGPASSFILE={path}", "PGCONNECT_TIMEOUT=20"], options
+        why = f"radius_db of {CONF} is to be the name of a database alone, with server, login and " \
+              "password beside it"
+    else:
+        words = [it for option, name in OPTIONS.items() if found.get(name)
+                 for it in (option, found[name])]
+        done = machine.ran(["sh", "-c", DUMP, "sh", "-f", to, *words], 3600,
+                           found.get("password", "") + "\n")
+        if not done.returncode:
+            return None
+        why = machine.last_line(done.stderr)
+    files.remove(to)
+    return f"the copy lacks FreeRADIUS' database: {why}"

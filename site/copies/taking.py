@@ -2,13 +2,9 @@
 
 import fcntl
 import glob
-import grp
 import gzip
-import json
 import os
-import pwd
 import shutil
-import stat
 import subprocess
 import time
 
@@ -21,58 +17,19 @@ OLD = ".old"
 READERS = "/etc/radacctd-copies.recipients"
 
 
-def rights(status):
-    """Owner, group and mode, by names: another machine has other numbers."""
-    owner, group = pwd.getpwuid(status.st_uid).pw_name, grp.getgrgid(status.st_gid).gr_name
-    return [owner, group, stat.S_IMODE(status.st_mode)]
-
-
-def take_roots(folder):
-    """Copies root's places. No link is followed, and a folder that another user may write fails."""
-    found = {"files": {}, "folders": {}, "links": {}}
-    for path in places.roots():
-        with files.opened_folder(os.path.dirname(path)) as above:
-            take(above, os.path.basename(path), path, f"{folder}/{kept.FILES}{path}", found)
-    return found
-
-
-def take(above, name, path, to, found):
-    status = os.stat(name, dir_fd=above, follow_symlinks=False)
-    os.makedirs(os.path.dirname(to), exist_ok=True)
-    if stat.S_ISLNK(status.st_mode):
-        found["links"][path] = os.readlink(name, dir_fd=above)
-    elif stat.S_ISDIR(status.st_mode):
-        with files.handle_of(name, files.FOLDER, above) as inner:
-            found["folders"][path] = rights(root_only(path, os.fstat(inner)))
-            os.makedirs(to, exist_ok=True)
-            for it in sorted(os.listdir(inner)):
-                if "~" not in it:
-                    take(inner, it, f"{path}/{it}", f"{to}/{it}", found)
-    elif stat.S_ISREG(status.st_mode):
-        with files.regular(above, name) as (file, it), open(to, "xb") as new:
-            found["files"][path] = rights(it)
-            shutil.copyfileobj(file, new)
-
-
-def root_only(path, status):
-    if status.st_uid != 0 or status.st_mode & 0o022:
-        raise Failed(f"others than root may write in {path}: chown root and chmod go-w it")
-    return status
-
-
-def dump_sql():
-    """FreeRADIUS' users, if they are in PostgreSQL: why the copy has none, or None."""
-    settings, path = postgres.settings(), f"{NEW}/{kept.DUMP}"
-    if not settings:
-        return None
-    try:
-        with postgres.connection(settings) as (begin, options):
-            done = machine.ran([*begin, "pg_dump", "-w", *options, "-f", path], 3600)
-        if done.returncode:
-            raise OSError(done.stderr.strip()[-200:])
-    except OSError as why:
-        files.remove(path)
-        return f"the copy lacks FreeRADIUS' database: {why}"
+def take_roots(to):
+    """Archives root's places, with owners and modes. tar follows no link of theirs, and a folder
+    in which others may put one fails.
+    """
+    found = places.roots()
+    for path in found:
+        with files.opened_folder(os.path.dirname(path)):
+            pass
+    others = machine.given(["find", *found, "-type", "d", "(", "!", "-uid", "0", "-o", "-perm",
+                            "/022", ")"]).splitlines()
+    if others:
+        raise Failed(f"others than root may write in {others[0]}: chown root and chmod go-w it")
+    machine.given(["tar", "-cf", to, "--exclude=*~*", *found])
 
 
 def make(taken):
@@ -82,18 +39,12 @@ def make(taken):
     shutil.rmtree(NEW, ignore_errors=True)
     os.mkdir(NEW, 0o700)
     seconds = book.copy(NEW)
-    found = {"taken": taken, "host": os.uname().nodename, "stores": {}}
     for path, (user, _) in places.STORES.items():
         if os.path.exists(path):
-            to = f"{NEW}/{kept.FILES}{path}"
-            os.makedirs(os.path.dirname(to), exist_ok=True)
-            owners.read_store(path, user, to)
-            found["stores"][path] = rights(os.stat(path, follow_symlinks=False))
-    found |= take_roots(NEW)
-    with open(f"{NEW}/{kept.LIST}", "x", encoding="utf-8") as file:
-        json.dump(found, file, indent=1)
-    lacks = dump_sql()
-    kept.seal(NEW)
+            owners.read_store(path, user, f"{NEW}/{os.path.basename(path)}")
+    take_roots(f"{NEW}/{kept.ROOTS}")
+    lacks = postgres.dump(f"{NEW}/{kept.DUMP}")
+    kept.seal(NEW, time.strftime("%F %T", time.localtime(taken)))
     return seconds, lacks
 
 

@@ -10,13 +10,13 @@ import sqlite3
 import stat
 import subprocess
 import sys
+import tarfile
 import tempfile
 import time
 import unittest
 from unittest import mock
 
 from radacctd_site.core import Failed, machine, places as of_core, steps
-from radacctd_site.copies.kept import sum_of
 from radacctd_site.copies import (
     book, copy_command, kept, looks, owners, places, postgres, restoring, taking)
 
@@ -56,6 +56,11 @@ def written(path, text, user="root", mode=0o600):
 
 def text_of(path):
     with open(path) as file:
+        return file.read()
+
+
+def octets_of(path):
+    with open(path, "rb") as file:
         return file.read()
 
 
@@ -154,17 +159,18 @@ class Taking(Site):
         path = self.night()
         self.assertEqual(self.calls, [["stop", book.UNIT], ["start", book.UNIT]])
         self.assertFalse(os.path.exists(book.STOPPED))
-        found = kept.check(path)
-        files = f"{path}/{kept.FILES}{self.top}"
-        self.assertEqual(text_of(f"{files}/etc/radacctd.toml"), "secret = 1\n")
-        self.assertFalse(os.path.exists(f"{files}/etc/radacctd.toml~before-1"))
-        self.assertEqual(found["files"][f"{self.top}/etc/radacctd.toml"], ["root", "root", 0o640])
-        self.assertEqual(found["links"], {f"{self.top}/etc/radacctd-front/link": "queries"})
-        self.assertEqual(os.listdir(f"{files}/site"), ["site.db"])
+        self.assertRegex(kept.check(path), time.strftime("%F [0-9:]{8}"))
+        self.assertEqual(sorted(os.listdir(path)), [kept.SUMS, "book", kept.ROOTS, "site.db"])
+        etc = self.top[1:] + "/etc/radacctd"
+        with tarfile.open(f"{path}/{kept.ROOTS}") as found:
+            self.assertEqual(sorted(found.getnames()), [
+                f"{etc}-front", f"{etc}-front/link", f"{etc}-front/queries", f"{etc}.toml"])
+            self.assertEqual(found.extractfile(f"{etc}.toml").read(), b"secret = 1\n")
+            self.assertEqual(found.getmember(f"{etc}-front/link").linkname, "queries")
         said = subprocess.run(["sha256sum", "-c", "--quiet", kept.SUMS], cwd=path)
         self.assertEqual(said.returncode, 0)
-        modes = {stat.S_IMODE(os.stat(it).st_mode) & 0o077
-                 for it in (path, *(f"{path}/{it}" for it in kept.paths(path)))}
+        modes = {stat.S_IMODE(os.stat(f"{path}/{it}").st_mode) & 0o077
+                 for it in (".", *os.listdir(path))}
         self.assertEqual(modes, {0})
         day = f"{places.EXPORTS}/{os.path.basename(path).removeprefix('site-')}"
         self.assertEqual(sorted(os.listdir(day)), ["balances.csv.gz", "sessions.csv.gz",
@@ -173,11 +179,9 @@ class Taking(Site):
     def test_a_book_that_is_not_sound_is_kept_apart_and_no_older_copy_goes(self):
         self.night()
         self.patch(places, NIGHTS=1)
-        real = kept.listed
         for _ in range(2):
             with mock.patch.object(machine, "run", lambda *_, **__: (3, "db: Unbalanced\n")):
                 self.assertRaisesRegex(Failed, "Unbalanced.*refused-site-", self.night)
-        self.assertIs(real, kept.listed)
         self.assertEqual(len(places.names()), 1)
         self.assertEqual(len(places.names(places.REFUSED)), 1)
         self.assertEqual([it.name for it in looks.look_at(None)], ["copy-bad"])
@@ -232,15 +236,13 @@ class Taking(Site):
         self.assertEqual(places.names(), [])
         self.assertFalse(os.path.exists(taking.NEW))
 
-    def test_a_book_that_another_process_has_open(self):
-        with open(of_core.BOOK, "r+b") as other:
-            lock = book.LOCK.replace(b"\0\0", b"\1\0", 1)
-            book.fcntl.fcntl(other, book.fcntl.F_OFD_SETLK, lock)
-            self.assertRaisesRegex(Failed, "a process has", self.night)
+    def test_a_book_that_another_process_writes_meanwhile(self):
+        with mock.patch.object(book, "clone", lambda *_: written(of_core.BOOK, "more", USER)):
+            self.assertRaisesRegex(Failed, "was written meanwhile", self.night)
 
     def test_a_damaged_copy_is_told(self):
         path = self.night()
-        for name in ("book", kept.LIST):
+        for name in ("book", kept.ROOTS):
             with open(f"{path}/{name}", "r+b") as file:
                 was = file.read(1)
                 file.seek(0)
@@ -249,8 +251,9 @@ class Taking(Site):
             with open(f"{path}/{name}", "r+b") as file:
                 file.write(was)
         kept.check(path)
-        os.remove(f"{path}/{kept.FILES}{self.top}/etc/radacctd.toml")
-        self.assertRaisesRegex(kept.Unsound, "radacctd.toml", kept.check, path)
+        for does in (os.remove, lambda it: written(it, "")):
+            does(f"{path}/site.db")
+            self.assertRaisesRegex(kept.Unsound, "site.db is not as it was", kept.check, path)
 
     def test_a_store_that_is_damaged(self):
         with open(f"{self.top}/site/site.db", "r+b") as file:
@@ -259,8 +262,7 @@ class Taking(Site):
         self.assertRaisesRegex(Failed, f"as {PAGES}", self.night)
 
     def test_a_database_that_is_away_fails_the_night_which_has_its_copy(self):
-        self.patch(postgres, settings=lambda: {"dialect": "postgresql"},
-                   connection=lambda _: contextlib.nullcontext((["false"], [])))
+        self.patch(postgres, settings=lambda: {"server": "127.0.0.1", "port": "1"})
         self.assertRaisesRegex(Failed, "lacks FreeRADIUS' database", self.night)
         self.assertEqual(len(places.names()), 1)
 
@@ -292,7 +294,7 @@ class Attacked(Site):
         with contextlib.suppress(Failed, OSError):
             shutil.rmtree(taking.NEW, ignore_errors=True)
             taking.make(0)
-        for it in kept.paths(taking.NEW):
+        for it in os.listdir(taking.NEW):
             with open(f"{taking.NEW}/{it}", "rb") as file:
                 self.assertNotIn(b"root's own", file.read(), it)
 
@@ -309,14 +311,13 @@ class Attacked(Site):
     def test_nor_changes_a_restore_a_file_of_roots(self):
         part = f"{self.top}/part"
         written(part, "a book")
-        before, content = os.stat(self.secret), sum_of(self.secret)
+        before, content = os.stat(self.secret), octets_of(self.secret)
         with self.racing(f"{self.top}/state", USER, "book", "book.new", "book-wal"):
             for number in range(20):
                 with contextlib.suppress(Failed, OSError):
-                    owners.put(of_core.BOOK, USER, str(number), {"": part, "-wal": part},
-                               (0, 0o644))
+                    owners.put(of_core.BOOK, USER, str(number), {"": part, "-wal": part})
         after = os.stat(self.secret)
-        self.assertEqual(sum_of(self.secret), content)
+        self.assertEqual(octets_of(self.secret), content)
         self.assertEqual((after.st_mode, after.st_uid, after.st_ino),
                          (before.st_mode, before.st_uid, before.st_ino))
 
@@ -326,9 +327,6 @@ class Restoring(Site):
         super().setUp()
         self.patch(of_core, USER=PAGES)
         self.patch(restoring, LOCK=f"{self.top}/lock")
-        # A test's folder is below /tmp, in which everyone may write.
-        self.need, self.dates = restoring.need_root_only, []
-        self.patch(restoring, need_root_only=lambda _: None)
 
     def restore(self, folder, replaces=None):
         with contextlib.redirect_stdout(io.StringIO()):
@@ -339,16 +337,15 @@ class Restoring(Site):
 
     def test_all_is_as_it_was_and_what_was_there_is_kept(self):
         path = self.night()
-        was = {it: open(f"{self.top}/{it}", "rb").read() for it in ("state/book",
-                                                                   "etc/radacctd-front/queries")}
+        was = {it: octets_of(f"{self.top}/{it}")
+               for it in ("state/book", "etc/radacctd-front/queries")}
         self.sell(2)
         written(f"{self.top}/state/book", "another", USER)
         written(f"{self.top}/state/book-wal", "its log", USER)
         written(f"{self.top}/etc/radacctd.toml", "other\n", mode=0o600)
         self.restore(path, self.today())
-        for it, octets in was.items():
-            with open(f"{self.top}/{it}", "rb") as file:
-                self.assertEqual(file.read(), octets, it)
+        self.assertEqual({it: octets_of(f"{self.top}/{it}") for it in was}, was)
+        self.assertEqual(os.readlink(f"{self.top}/etc/radacctd-front/link"), "queries")
         self.assertEqual(self.sales(), [1])
         owner = pwd.getpwuid(os.stat(of_core.BOOK).st_uid).pw_name
         self.assertEqual((owner, os.listdir(f"{self.top}/etc").count("radacctd.toml")), (USER, 1))
@@ -376,8 +373,7 @@ class Restoring(Site):
         with contextlib.redirect_stdout(io.StringIO()):
             self.assertEqual(restoring.restore(path, self.today(), is_book_alone=True), 0)
         self.assertEqual((self.sales(), self.calls), ([1, 2], [["stop", "radacctd.service"]]))
-        with open(of_core.BOOK, "rb") as now, open(f"{path}/book", "rb") as was:
-            self.assertEqual(now.read(), was.read())
+        self.assertEqual(octets_of(of_core.BOOK), octets_of(f"{path}/book"))
 
     def test_a_damaged_copy_changes_nothing(self):
         path = self.night()
@@ -389,7 +385,10 @@ class Restoring(Site):
 
     def test_a_copy_that_another_user_may_change(self):
         path = self.night()
-        self.assertRaisesRegex(Failed, "another user may change it", self.need, path)
+        os.chown(f"{path}/book", pwd.getpwnam(USER).pw_uid, 0)
+        self.assertRaisesRegex(Failed, "another user may change .*/book", self.restore, path)
+        shutil.chown(path, USER)
+        self.assertRaisesRegex(OSError, "others than root may write", self.restore, path)
 
     def test_the_set_up_does_the_rest_by_its_own_answers(self):
         self.patch(restoring, ANSWERS=f"{self.top}/etc/radacctd-answers.json")

@@ -19,7 +19,7 @@ TRY = "import sqlite3, sys; it = sqlite3.connect(sys.argv[1]); it.isolation_leve
 CURES = {"locked": "end who has it open: ls -l /proc/*/fd | grep {path}",
          "open database|readonly|disk I/O": "chown {user}: {path}*; its disk may be read-only",
          "": "stop radacctd-site.service and radacctd-minute.timer, move it aside, and put that of the "
-             "last copy there, of {user} and its mode: {backups}/site-*/files{path}"}
+             "last copy there, of {user} and its mode: {backups}/site-*/{name}"}
 
 
 def secrets(path, clients):
@@ -66,7 +66,7 @@ def store(path):
         if why != "ok":
             cure = next(cure for reason, cure in CURES.items() if re.search(reason, why))
             yield Fault("store-wrong", f"{path}: {why}", cure.format(
-                path=path, user=places.USER, backups=places.BACKUPS))
+                path=path, name=os.path.basename(path), user=places.USER, backups=places.BACKUPS))
 
 
 def oldest_kept(folder):

@@ -667,7 +667,7 @@ class Check(Folder):
             self.assertIn("end who has it open", fault.cure)
         self.write(b"x" * 4096)
         [fault] = looks.store(self.path)
-        self.assertIn(f"/var/backups/radacctd/site-*/files{self.path}", fault.cure)
+        self.assertIn(f"/var/backups/radacctd/site-*/{os.path.basename(self.path)}", fault.cure)
         os.remove(self.path)
         os.mkdir(self.path)
         [fault] = looks.store(self.path)
