@@ -2,13 +2,11 @@
 
 import fcntl
 import glob
-import gzip
 import os
 import shutil
-import subprocess
 import time
 
-from radacctd_site.core import Failed, files, machine, places as of_kit
+from radacctd_site.core import Failed, files, machine, places as of_kit, told
 from radacctd_site.copies import book, kept, owners, places, postgres
 
 NEW, AWAY = f"{places.FOLDER}/.new", f"{places.FOLDER}/away"
@@ -53,19 +51,19 @@ def rename(path, new):
     files.sync_folder(places.FOLDER)
 
 
+def piped(pipe, to, *words):
+    """Writes what a pipe of programs prints into a file. Each of them must end well."""
+    machine.given(["bash", "-o", "pipefail", "-c", f'{pipe} >"$0"', to, *words], seconds=86400)
+
+
 def export(folder, name):
     """Writes what a month is reckoned of: the book's sessions, balances and vouchers on that day."""
     new = f"{places.EXPORTS}/.new"
     shutil.rmtree(new, ignore_errors=True)
     os.makedirs(new, 0o700)
-    with kept.looked_at(folder) as words:
+    with kept.looked_at(folder) as words, told(Failed, f"{folder} is sound, but: ", Failed):
         for what in ("sessions", "balances", "topups"):
-            with gzip.open(f"{new}/{what}.csv.gz", "wb") as file, subprocess.Popen(
-                    [of_kit.binary(), "export", what, *words],
-                    stdout=subprocess.PIPE) as it:
-                shutil.copyfileobj(it.stdout, file)
-            if it.returncode:
-                raise Failed(f"the copy is sound, but its {what} cannot be exported")
+            piped('"$@" | gzip', f"{new}/{what}.csv.gz", of_kit.binary(), "export", what, *words)
     os.rename(new, f"{places.EXPORTS}/{name}")
 
 
@@ -76,11 +74,8 @@ def send_off(path):
     shutil.rmtree(AWAY, ignore_errors=True)
     os.mkdir(AWAY, 0o700)
     name = os.path.basename(path)
-    with subprocess.Popen(["tar", "-C", places.FOLDER, "-c", name],
-                          stdout=subprocess.PIPE) as tar:
-        done = subprocess.run(["age", "-R", READERS, "-o", f"{AWAY}/.new"], stdin=tar.stdout)
-    if tar.returncode or done.returncode:
-        raise Failed(f"{path} is there, but could not be encrypted for {READERS}")
+    with told(Failed, f"{path} is sound, but not encrypted for {READERS}: ", Failed):
+        piped('tar -C "$1" -c "$2" | age -R "$3"', f"{AWAY}/.new", places.FOLDER, name, READERS)
     os.rename(f"{AWAY}/.new", f"{AWAY}/{name}.tar.age")
 
 

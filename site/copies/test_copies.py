@@ -99,8 +99,8 @@ class Site(unittest.TestCase):
         self.patch(of_core, binary=lambda: f"{top}/program")
         self.patch(postgres, settings=lambda: {})
         given = machine.given
-        self.patch(machine, given=lambda words, *more: self.calls.append(words[1:]) if words[0] in (
-            "systemctl", "systemd-sysusers") else given(words, *more))
+        self.patch(machine, given=lambda words, **how: self.calls.append(words[1:]) if words[0] in (
+            "systemctl", "systemd-sysusers") else given(words, **how))
 
     def patch(self, module, **found):
         self.stack.enter_context(mock.patch.multiple(module, **found))
