@@ -53,6 +53,14 @@ def make(db, book, key, words):
         raise Failed(f"{wait} of them log in once the book has answered: it is asked each minute")
 
 
+def found_by(db, what):
+    """The logins that a person means."""
+    found = logins.named(db, what)
+    if not found:
+        raise Failed(f"{what} is no code, name, serial number or sheet: nothing was done")
+    return found
+
+
 def show(db, what):
     found = logins.named(db, what) if what else logins.listed(db)
     found = found or logins.listed(db, "package = ?", what)
@@ -62,13 +70,8 @@ def show(db, what):
 
 
 def end(db, words):
-    found = {}
-    for what in words.what:
-        one = {it["account"]: it["state"] for it in logins.named(db, what)}
-        if not one:
-            raise Failed(f"{what} is no code, name, serial number or sheet: nothing was ended")
-        found |= one
-    open_ones = [it for it, state in found.items() if state != logins.ENDED]
+    found = {it["account"]: it["state"] for what in words.what for it in found_by(db, what)}
+    open_ones = [name for name, state in found.items() if state != logins.ENDED]
     if len(open_ones) > 1:
         cli.confirm(f"End {len(open_ones)} logins for ever?", words.yes)
     logins.end(db, open_ones)
@@ -85,7 +88,8 @@ def main(words):
         elif words.act == "list":
             show(db, words.what)
         elif words.act == "print":
-            print(paper.page("packages/cards.html", pages.values(db, words.what)))
+            found = found_by(db, words.what)
+            print(paper.page("packages/cards.html", pages.values(db, words.what, found)))
         else:
             end(db, words)
     return 0

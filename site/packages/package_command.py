@@ -5,8 +5,7 @@ change is for each login of the package, from its next session. The sum is what 
 what the book credits to the login's account; by the plan of radacctd it is used up.
 """
 
-
-from radacctd_site.core import Failed, accounts, cli, moment, money, names, places, store
+from radacctd_site.core import Failed, accounts, cli, money, names, places, store
 from radacctd_site.packages import logins, packages, users
 
 # Each option of `put`: what reads its text, what `no` makes of it, and what it is.
@@ -74,13 +73,8 @@ def put(db, words):
 
 
 def show(db):
-    site = money.of_site(places.SETTINGS)
     for name, it in packages.every(db).items():
-        parts = [site.shown(it.sum), f"plan {it.plan}", packages.rate(it),
-                 f"{it.devices} devices" if it.devices else "",
-                 f"{packages.span(it.valid)} from the first login" if it.valid else "",
-                 f"until {moment(it.until)}" if it.until else "",
-                 f"then {it.slow}" if it.slow else ""]
+        parts = [packages.terms(it), f"plan {it.plan}", f"then {it.slow}" if it.slow else ""]
         states = [row["state"] for row in logins.listed(db, "package = ?", name)]
         counts = ", ".join(f"{state} {states.count(state)}" for state in logins.STATES)
         print(f"{name}: {', '.join(filter(None, parts))}; {counts}".replace("\u00a0", " "))

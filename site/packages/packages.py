@@ -7,8 +7,7 @@ import collections
 import re
 import time
 
-# Templates show a moment by this module.
-from radacctd_site.core import Failed, moment
+from radacctd_site.core import Failed, accounts, moment, money, places
 
 NAME = re.compile("[a-z0-9][a-z0-9-]{0,23}")
 SPEED, RATE = re.compile("([0-9]{1,7})([kM])/([0-9]{1,7})([kM])"), {"k": 1, "M": 1000}
@@ -127,5 +126,11 @@ def span(seconds):
     return f"{seconds // each}\u00a0{'min' if name == 'm' else name}"
 
 
-def rate(it):
-    return f"{it.down / 1000:g}/{it.up / 1000:g}\u00a0Mbit/s" if it.down else ""
+def terms(it, text=accounts.plain):
+    """What a package has, in one line."""
+    found = [it.sum and money.of_site(places.SETTINGS).shown(it.sum),
+             it.valid and text("%(time)s from the first login", time=span(it.valid)),
+             it.until and text("until %(time)s", time=moment(it.until)),
+             it.devices and text("devices: %(count)s", count=it.devices),
+             it.down and f"{it.down / 1000:g}/{it.up / 1000:g}\u00a0Mbit/s"]
+    return ", ".join(filter(None, found))

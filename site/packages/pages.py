@@ -2,7 +2,7 @@
 
 import urllib.parse
 
-from radacctd_site.core import Failed, codes, money, places, web
+from radacctd_site.core import Failed, accounts, codes, places, web
 from radacctd_site.core.features import OPERATOR
 from radacctd_site.packages import logins, packages
 
@@ -13,9 +13,9 @@ LINES = 20
 def form(visit, said="", kind="success", status=200):
     """An operator sees all of the last logins, a cashier those that they sold."""
     where = ("true",) if visit.role == OPERATOR else ("who = ?", visit.name)
-    return visit.page("packages/packages.html", status, code=codes.new(), show=packages,
+    return visit.page("packages/packages.html", status, code=codes.new(), terms=packages.terms,
                       packages=packages.sold(visit.db), quoted=quoted, said=said, kind=kind,
-                      logins=list(logins.listed(visit.db, *where, most=LINES)), money=visit.money())
+                      logins=list(logins.listed(visit.db, *where, most=LINES)))
 
 
 def change(visit):
@@ -60,22 +60,17 @@ def quoted(what):
     return urllib.parse.quote(what, safe="")
 
 
-def values(db, what):
-    """What the page of a login or of a sheet has."""
-    found, known = logins.named(db, what), packages.every(db)
-    if not found:
-        raise Failed(f"{what} is no code, name, serial number or sheet")
-    return {"name": what, "logins": found, "packages": known, "show": packages,
-            "money": money.of_site(places.SETTINGS)}
+def values(db, what, found, text=accounts.plain):
+    """What the page of logins has, which are of a sheet, or one."""
+    return {"name": what, "logins": found, "packages": packages.every(db), "text": text,
+            "terms": packages.terms}
 
 
 def cards(visit, what):
     """Cards to print: a cashier has those of logins that they sold."""
-    try:
-        found = values(visit.db, what)
-    except Failed:
-        found = {"logins": []}
-    mine = [it for it in found["logins"] if visit.role == OPERATOR or it["who"] == visit.name]
+    mine = [it for it in logins.named(visit.db, what)
+            if visit.role == OPERATOR or it["who"] == visit.name]
     if not mine:
         return visit.say(visit.text("There is no such page."), 404)
-    return visit.page("packages/cards.html", base="core/base.html", **{**found, "logins": mine})
+    return visit.page("packages/cards.html", base="core/base.html",
+                      **values(visit.db, what, mine, visit.text))

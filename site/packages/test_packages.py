@@ -89,7 +89,7 @@ class Terms(Packages):
         until = str(int(time.mktime((2099, 12, 31, 12, 0, 0, 0, 0, -1))))
         self.assertEqual({it[1:] for it in self.rows("radgroupcheck")}, {
             ("Expiration", ":=", until), ("Front-Slow", ":=", "open")})
-        self.assertIn("week: 9.00 EUR, plan gold, until 2099-12-31 12:00, then open; live 0",
+        self.assertIn("week: 9.00 EUR, until 2099-12-31 12:00, plan gold, then open; live 0",
                       self.run_it("package", "list"))
         self.assertEqual([it.name for it in packages.sold(self.db)], ["week"])
 
