@@ -18,7 +18,7 @@ from unittest import mock
 
 from radacctd_site.core import Failed, machine, places as of_core, steps
 from radacctd_site.copies import (
-    book, copy_command, kept, looks, owners, places, postgres, restoring, taking)
+    book, copy_command, kept, looks, owners, places, postgres, restore_command, taking)
 
 subprocess_run = subprocess.run
 # Two users of Debian's who have nothing, in the place of radacctd's.
@@ -326,11 +326,11 @@ class Restoring(Site):
     def setUp(self):
         super().setUp()
         self.patch(of_core, USER=PAGES)
-        self.patch(restoring, LOCK=f"{self.top}/lock")
+        self.patch(restore_command, LOCK=f"{self.top}/lock")
 
     def restore(self, folder, replaces=None):
         with contextlib.redirect_stdout(io.StringIO()):
-            return restoring.restore(folder, replaces)
+            return restore_command.restore(folder, replaces)
 
     def today(self):
         return time.strftime("%F")
@@ -371,7 +371,7 @@ class Restoring(Site):
         written(of_core.BOOK, "another", USER)
         self.calls.clear()
         with contextlib.redirect_stdout(io.StringIO()):
-            self.assertEqual(restoring.restore(path, self.today(), is_book_alone=True), 0)
+            self.assertEqual(restore_command.restore(path, self.today(), is_book_alone=True), 0)
         self.assertEqual((self.sales(), self.calls), ([1, 2], [["stop", "radacctd.service"]]))
         self.assertEqual(octets_of(of_core.BOOK), octets_of(f"{path}/book"))
 
@@ -391,12 +391,12 @@ class Restoring(Site):
         self.assertRaisesRegex(OSError, "others than root may write", self.restore, path)
 
     def test_the_set_up_does_the_rest_by_its_own_answers(self):
-        self.patch(restoring, ANSWERS=f"{self.top}/etc/radacctd-answers.json")
-        written(restoring.ANSWERS, json.dumps({"packages": ["nginx"], "answers": {}}))
+        self.patch(restore_command, ANSWERS=f"{self.top}/etc/radacctd-answers.json")
+        written(restore_command.ANSWERS, json.dumps({"packages": ["nginx"], "answers": {}}))
         path = self.night()
         packages, run = mock.Mock(), mock.Mock(return_value=mock.Mock(returncode=0))
         self.patch(steps, packages=packages)
-        self.patch(restoring.subprocess, run=lambda words, **how: (
+        self.patch(restore_command.subprocess, run=lambda words, **how: (
             run(words) if words[1:] == ["setup", "--yes"] else subprocess_run(words, **how)))
         self.assertEqual(self.restore(path, self.today()), 0)
         packages.assert_called_once_with(["nginx"])
