@@ -14,6 +14,7 @@ import tarfile
 import tempfile
 import time
 import unittest
+from pathlib import Path
 from unittest import mock
 
 from radacctd_site.core import Failed, machine, places as of_core, steps
@@ -48,20 +49,9 @@ while True:
 
 
 def written(path, text, user="root", mode=0o600):
-    with open(path, "w") as file:
-        file.write(text)
+    Path(path).write_text(text)
     shutil.chown(path, user, pwd.getpwnam(user).pw_gid)
     os.chmod(path, mode)
-
-
-def text_of(path):
-    with open(path) as file:
-        return file.read()
-
-
-def octets_of(path):
-    with open(path, "rb") as file:
-        return file.read()
 
 
 @unittest.skipUnless(os.geteuid() == 0, "only root becomes another user")
@@ -209,8 +199,8 @@ class Taking(Site):
                 taking.carry_forward()
             self.assertEqual(len(self.calls), 2 * count, day)
         self.assertEqual(self.calls, [["stop", book.UNIT], ["start", book.UNIT]])
-        self.assertIn("forward --config /etc/radacctd.toml --db", text_of(f"{self.top}/said"))
-        self.assertIn("--oldest-report 60 --before 90 --keep books", text_of(f"{self.top}/said"))
+        self.assertRegex(Path(f"{self.top}/said").read_text(), "forward --config /etc/radacctd.toml "
+                         "--db .* --oldest-report 60 --before 90 --keep books")
 
     def test_no_server_stays_stopped_for_a_copy_whose_unit_was_killed(self):
         open(book.STOPPED, "w").close()
@@ -243,22 +233,19 @@ class Taking(Site):
     def test_a_damaged_copy_is_told(self):
         path = self.night()
         for name in ("book", kept.ROOTS):
-            with open(f"{path}/{name}", "r+b") as file:
-                was = file.read(1)
-                file.seek(0)
-                file.write(bytes([was[0] ^ 1]))
+            file = Path(f"{path}/{name}")
+            was = file.read_bytes()
+            file.write_bytes(bytes([was[0] ^ 1]) + was[1:])
             self.assertRaisesRegex(kept.Unsound, f"{name} is not as it was", kept.check, path)
-            with open(f"{path}/{name}", "r+b") as file:
-                file.write(was)
+            file.write_bytes(was)
         kept.check(path)
         for does in (os.remove, lambda it: written(it, "")):
             does(f"{path}/site.db")
             self.assertRaisesRegex(kept.Unsound, "site.db is not as it was", kept.check, path)
 
     def test_a_store_that_is_damaged(self):
-        with open(f"{self.top}/site/site.db", "r+b") as file:
-            file.seek(4096)
-            file.write(b"\xff" * 4096)
+        store = Path(f"{self.top}/site/site.db")
+        store.write_bytes(store.read_bytes()[:4096] + b"\xff" * 4096)
         self.assertRaisesRegex(Failed, f"as {PAGES}", self.night)
 
     def test_a_database_that_is_away_fails_the_night_which_has_its_copy(self):
@@ -295,8 +282,7 @@ class Attacked(Site):
             shutil.rmtree(taking.NEW, ignore_errors=True)
             taking.make(0)
         for it in os.listdir(taking.NEW):
-            with open(f"{taking.NEW}/{it}", "rb") as file:
-                self.assertNotIn(b"root's own", file.read(), it)
+            self.assertNotIn(b"root's own", Path(f"{taking.NEW}/{it}").read_bytes(), it)
 
     def test_nor_does_a_pipe_or_a_second_name(self):
         path = of_core.BOOK
@@ -311,13 +297,13 @@ class Attacked(Site):
     def test_nor_changes_a_restore_a_file_of_roots(self):
         part = f"{self.top}/part"
         written(part, "a book")
-        before, content = os.stat(self.secret), octets_of(self.secret)
+        before, content = os.stat(self.secret), Path(self.secret).read_bytes()
         with self.racing(f"{self.top}/state", USER, "book", "book.new", "book-wal"):
             for number in range(20):
                 with contextlib.suppress(Failed, OSError):
                     owners.put(of_core.BOOK, USER, str(number), {"": part, "-wal": part})
         after = os.stat(self.secret)
-        self.assertEqual(octets_of(self.secret), content)
+        self.assertEqual(Path(self.secret).read_bytes(), content)
         self.assertEqual((after.st_mode, after.st_uid, after.st_ino),
                          (before.st_mode, before.st_uid, before.st_ino))
 
@@ -337,14 +323,14 @@ class Restoring(Site):
 
     def test_all_is_as_it_was_and_what_was_there_is_kept(self):
         path = self.night()
-        was = {it: octets_of(f"{self.top}/{it}")
+        was = {it: Path(f"{self.top}/{it}").read_bytes()
                for it in ("state/book", "etc/radacctd-front/queries")}
         self.sell(2)
         written(f"{self.top}/state/book", "another", USER)
         written(f"{self.top}/state/book-wal", "its log", USER)
         written(f"{self.top}/etc/radacctd.toml", "other\n", mode=0o600)
         self.restore(path, self.today())
-        self.assertEqual({it: octets_of(f"{self.top}/{it}") for it in was}, was)
+        self.assertEqual({it: Path(f"{self.top}/{it}").read_bytes() for it in was}, was)
         self.assertEqual(os.readlink(f"{self.top}/etc/radacctd-front/link"), "queries")
         self.assertEqual(self.sales(), [1])
         owner = pwd.getpwuid(os.stat(of_core.BOOK).st_uid).pw_name
@@ -352,7 +338,7 @@ class Restoring(Site):
         self.assertEqual(stat.S_IMODE(os.stat(f"{self.top}/etc/radacctd.toml").st_mode), 0o640)
         kept_there = sorted(it for it in os.listdir(f"{self.top}/state") if "before" in it)
         self.assertEqual(len(kept_there), 2)
-        self.assertEqual([text_of(f"{self.top}/state/{it}") for it in kept_there],
+        self.assertEqual([Path(f"{self.top}/state/{it}").read_text() for it in kept_there],
                          ["another", "its log"])
         self.assertFalse(os.path.exists(f"{of_core.BOOK}-wal"))
 
@@ -373,12 +359,11 @@ class Restoring(Site):
         with contextlib.redirect_stdout(io.StringIO()):
             self.assertEqual(restore_command.restore(path, self.today(), is_book_alone=True), 0)
         self.assertEqual((self.sales(), self.calls), ([1, 2], [["stop", "radacctd.service"]]))
-        self.assertEqual(octets_of(of_core.BOOK), octets_of(f"{path}/book"))
+        self.assertEqual(Path(of_core.BOOK).read_bytes(), Path(f"{path}/book").read_bytes())
 
     def test_a_damaged_copy_changes_nothing(self):
         path = self.night()
-        with open(f"{path}/book", "ab") as file:
-            file.write(b"x")
+        Path(f"{path}/book").write_bytes(Path(f"{path}/book").read_bytes() + b"x")
         self.calls.clear()
         self.assertRaises(kept.Unsound, self.restore, path, self.today())
         self.assertEqual(self.calls, [])
