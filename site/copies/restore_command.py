@@ -12,7 +12,7 @@ import os
 import subprocess
 import time
 
-from radacctd_site.core import Failed, files, machine, places as of_kit, steps
+from radacctd_site.core import Failed, cli, files, machine, places as of_kit, steps
 from radacctd_site.core.steps import Folder
 from radacctd_site.copies import kept, owners, places
 
@@ -22,23 +22,22 @@ ANSWERS, LOCK = f"{of_kit.NOTES}/answers.json", "/run/radacctd-setup.lock"
 
 def arguments(it):
     it.add_argument("folder", help="the copy, in a folder of root's")
-    it.add_argument("--replaces", metavar="DATE",
-                    help="the day on which the book that is there was last written")
     it.add_argument("--book", action="store_true", help="put back the book alone")
+    it.add_argument("--yes", action="store_true", help="ask nothing, also if a book is there")
 
 
 def main(words):
-    return restore(words.folder.rstrip("/"), words.replaces, words.book)
+    return restore(words.folder.rstrip("/"), words.yes, words.book)
 
 
-def restore(folder, replaces, is_book_alone=False):
+def restore(folder, is_sure, is_book_alone=False):
     """All of it, or the book. Nothing is changed before the copy is known to be whole and wanted."""
     os.umask(0o077)
     need_root_only(folder)
+    confirm(is_sure)
     os.makedirs(places.FOLDER, exist_ok=True)
     print("checking the copy, which takes as long as two starts", flush=True)
     when = kept.check(folder)
-    refuse_if_there(replaces)
     machine.refuse_if_away()
     lock = files.open_lock(LOCK)
     if not files.is_locked(lock):
@@ -78,15 +77,14 @@ def need_root_only(folder):
                                  "chown -R root:, chmod -R go-w")
 
 
-def refuse_if_there(replaces):
-    """A book that is there is replaced only if its date is given."""
+def confirm(is_sure):
+    """A book that is there is replaced only if that is wanted."""
     found = [os.lstat(it).st_mtime for it in (of_kit.BOOK, f"{of_kit.BOOK}-wal")
              if os.path.lexists(it)]
-    date = time.strftime("%F", time.localtime(max(found))) if found else None
-    if date != replaces:
-        there = f"{of_kit.BOOK} is there, last written on {date}"
-        raise Failed(f"{there}: to replace it, and keep it beside, give --replaces {date}" if date
-                     else f"{of_kit.BOOK} is not there: leave --replaces away")
+    if found:
+        date = time.strftime("%F %T", time.localtime(max(found)))
+        cli.confirm(f"{of_kit.BOOK} is there, last written on {date}. Keep it beside, and put the "
+                    "copy in its place?", is_sure)
 
 
 def packages_of(folder):

@@ -314,12 +314,9 @@ class Restoring(Site):
         self.patch(of_core, USER=PAGES)
         self.patch(restore_command, LOCK=f"{self.top}/lock")
 
-    def restore(self, folder, replaces=None):
-        with contextlib.redirect_stdout(io.StringIO()):
-            return restore_command.restore(folder, replaces)
-
-    def today(self):
-        return time.strftime("%F")
+    def restore(self, folder, is_sure=True, **how):
+        with contextlib.redirect_stdout(io.StringIO()), mock.patch("sys.stdin", io.StringIO()):
+            return restore_command.restore(folder, is_sure, **how)
 
     def test_all_is_as_it_was_and_what_was_there_is_kept(self):
         path = self.night()
@@ -329,7 +326,7 @@ class Restoring(Site):
         written(f"{self.top}/state/book", "another", USER)
         written(f"{self.top}/state/book-wal", "its log", USER)
         written(f"{self.top}/etc/radacctd.toml", "other\n", mode=0o600)
-        self.restore(path, self.today())
+        self.restore(path)
         self.assertEqual({it: Path(f"{self.top}/{it}").read_bytes() for it in was}, was)
         self.assertEqual(os.readlink(f"{self.top}/etc/radacctd-front/link"), "queries")
         self.assertEqual(self.sales(), [1])
@@ -342,13 +339,13 @@ class Restoring(Site):
                          ["another", "its log"])
         self.assertFalse(os.path.exists(f"{of_core.BOOK}-wal"))
 
-    def test_a_book_that_is_there_is_replaced_by_its_date_alone(self):
-        path = self.night()
-        for given in (None, "2020-01-01"):
-            self.assertRaisesRegex(Failed, f"--replaces {self.today()}", self.restore, path, given)
+    def test_a_book_that_is_there_is_replaced_only_if_that_is_wanted(self):
+        path, today = self.night(), time.strftime("%F")
+        self.calls.clear()
+        self.assertRaisesRegex(Failed, f"written on {today}.*--yes", self.restore, path, False)
+        self.assertEqual(self.calls, [])
         os.remove(of_core.BOOK)
-        self.assertRaisesRegex(Failed, "leave --replaces away", self.restore, path, self.today())
-        self.restore(path)
+        self.restore(path, False)
         self.assertTrue(os.path.exists(of_core.BOOK))
 
     def test_the_book_alone(self):
@@ -356,8 +353,7 @@ class Restoring(Site):
         self.sell(2)
         written(of_core.BOOK, "another", USER)
         self.calls.clear()
-        with contextlib.redirect_stdout(io.StringIO()):
-            self.assertEqual(restore_command.restore(path, self.today(), is_book_alone=True), 0)
+        self.assertEqual(self.restore(path, is_book_alone=True), 0)
         self.assertEqual((self.sales(), self.calls), ([1, 2], [["stop", "radacctd.service"]]))
         self.assertEqual(Path(of_core.BOOK).read_bytes(), Path(f"{path}/book").read_bytes())
 
@@ -365,7 +361,7 @@ class Restoring(Site):
         path = self.night()
         Path(f"{path}/book").write_bytes(Path(f"{path}/book").read_bytes() + b"x")
         self.calls.clear()
-        self.assertRaises(kept.Unsound, self.restore, path, self.today())
+        self.assertRaises(kept.Unsound, self.restore, path)
         self.assertEqual(self.calls, [])
 
     def test_a_copy_that_another_user_may_change(self):
@@ -383,7 +379,7 @@ class Restoring(Site):
         self.patch(steps, packages=packages)
         self.patch(restore_command.subprocess, run=lambda words, **how: (
             run(words) if words[1:] == ["setup", "--yes"] else subprocess_run(words, **how)))
-        self.assertEqual(self.restore(path, self.today()), 0)
+        self.assertEqual(self.restore(path), 0)
         packages.assert_called_once_with(["nginx"])
         run.assert_called_once_with([of_core.RADACCTL, "setup", "--yes"])
 
