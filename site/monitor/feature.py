@@ -1,1 +1,3 @@
-"""Monitoring adds a file of rules for Prometheus: the README says where it goes."""
+"""What monitoring adds: the check of each night, and a file of rules for Prometheus."""
+
+EACH_NIGHT = "check:each_night"

@@ -11,7 +11,6 @@ freeradius-utils. It ends with 0 if all is as it should be, else with 1.
 import json
 import os
 import re
-import subprocess
 import sys
 import tempfile
 import time
@@ -22,6 +21,7 @@ ROOT = os.path.dirname(os.path.dirname(HERE))
 sys.path.insert(0, os.path.join(ROOT, "interop"))
 
 import served
+from machine import run
 from served import Server, check, report
 
 RULES, PAGE = (f"{HERE}/{it}" for it in ("radacctd.rules.yml", "README.md"))
@@ -108,11 +108,6 @@ def tests():
     return json.dumps({"rule_files": [RULES], "evaluation_interval": "1m", "tests": found})
 
 
-def run(*words, **more):
-    done = subprocess.run(words, capture_output=True, text=True, **more)
-    return done.returncode, done.stdout + done.stderr
-
-
 def text_of(path):
     with open(path, encoding="utf-8") as file:
         return file.read()
@@ -120,11 +115,11 @@ def text_of(path):
 
 def rules(folder):
     """The rules as promtool takes them; each alert fires in a case, and is on the page."""
-    status, told = run("promtool", "check", "rules", RULES)
+    status, told = run(["promtool", "check", "rules", RULES])
     check("promtool takes the rules", (status, told if status else ""), (0, ""))
     with open(f"{folder}/cases.yml", "w", encoding="utf-8") as file:
         file.write(tests())
-    status, told = run("promtool", "test", "rules", file.name)
+    status, told = run(["promtool", "test", "rules", file.name])
     check(f"the {len(CASES)} cases pass", (status, told if status else ""), (0, ""))
     fired = {f"Radacctd{it}" for _, moments in CASES.values()
              for text in moments.values() for it in re.findall(r":(\w+)", text)}
@@ -160,7 +155,7 @@ def main():
     with tempfile.TemporaryDirectory() as folder:
         rules(folder)
         text = counts(folder)
-    status, told = run("promtool", "check", "metrics", input=text)
+    status, told = run(["promtool", "check", "metrics"], input=text)
     check("promtool takes the counts that the program wrote", (status, told), (0, ""))
     written = set(re.findall(r"(?m)^# TYPE (\S+) ", text))
     named = set(re.findall(r"\bradacctd_\w+", text_of(RULES)))
