@@ -1,12 +1,10 @@
-"""What a site is to be: from a file, or asked one by one, each within its bounds."""
+"""What a site is to be: the answers of a file, each within its bounds."""
 
 import ipaddress
-import math
 import os
 import re
 import secrets
 import stat
-import sys
 import tomllib
 
 from radacctd_site.core import Failed, names
@@ -229,49 +227,3 @@ def read(path):
         raise Wrong(f"{path} is no TOML: {fault}") from None
     except Wrong as why:
         raise Wrong(f"{path}: {why}") from None
-
-
-# What is asked of a person: the question, and what an empty line means.
-QUESTIONS = [
-    ("name", "The name of the house, for pages and vouchers", "Wi-Fi"),
-    ("host", "The name of the web pages, as accounts.example.org (empty: no pages)", ""),
-    ("currency", "The currency, as EUR", "EUR"),
-    ("decimals", "How many decimals it has", "2"),
-    ("price", "What a gigabyte costs, as 1.00", "1.00"),
-    ("server", "The address at which access servers reach this machine", ""),
-    ("cashiers", "Names of cashiers, with spaces between", ""),
-]
-
-
-def line(question, usual):
-    print(f"{question}{f' [{usual}]' if usual else ''}: ", end="", file=sys.stderr, flush=True)
-    found = sys.stdin.readline()
-    need(found, "the answers ended: give a file of answers, or answer each question")
-    return found.strip() or usual
-
-
-def price_of(text, decimals):
-    """The plan `default` of a price for a gigabyte: the smallest block of at least a megabyte that
-    costs whole units.
-    """
-    found = re.fullmatch(r"([0-9]{1,7})(?:[.,]([0-9]{1,6}))?", text)
-    need(found and len(found[2] or "") <= decimals, f"{text!r} is no price")
-    units = int(found[1] + (found[2] or "").ljust(decimals, "0"))
-    blocks = math.gcd(units, 1000)
-    return {"class": "default", "block": 10**9 // blocks, "unit": units // blocks}
-
-
-def asked():
-    """The answers of a person."""
-    found = {name: line(question, usual) for name, question, usual in QUESTIONS}
-    need(re.fullmatch("[0-6]", found["decimals"]), "decimals is 0 to 6")
-    found["decimals"] = int(found["decimals"])
-    found["plan"] = [price_of(found.pop("price"), found["decimals"])]
-    found["cashiers"] = found["cashiers"].split() if found["host"] else []
-    print("Access servers: NAME ADDRESS VENDOR, a line each, and an empty line. VENDOR is one of "
-          + ", ".join(VENDORS) + ".", file=sys.stderr)
-    found["access_server"] = []
-    while words := line("Access server", "").split():
-        need(len(words) in (2, 3), "give NAME ADDRESS VENDOR")
-        found["access_server"].append(dict(zip(("name", "address", "vendor"), words)))
-    return Answers(found)

@@ -1,8 +1,8 @@
 """Sets a site up or completes it; with --check says what is wrong with it, and changes nothing.
 
-FILE has the answers, as TOML; --sample prints one. Without it they are asked, or are those of the
-last set-up. It says what it will do, and asks; --yes asks nothing. A second time it changes
-nothing. If it was killed, give it again. Run it as root.
+FILE has the answers, as TOML; --sample prints one. Without it they are those of the last set-up.
+It says what it will do, and asks; --yes asks nothing. A second time it changes nothing. If it was
+killed, give it again. Run it as root.
 
 It installs Debian's packages, writes the configuration with new secrets, makes the book, starts
 the service, sets FreeRADIUS up in front, and nginx with the pages. It writes whole files of its
@@ -63,7 +63,7 @@ vendor = "mikrotik"                 # or unifi, pfsense, openwrt, aruba, cisco, 
 
 
 def arguments(it):
-    it.add_argument("file", nargs="?", help="the answers; else the last ones, or they are asked")
+    it.add_argument("file", nargs="?", help="the answers; else the last ones")
     it.add_argument("--check", action="store_true", help="say what is wrong, and change nothing")
     it.add_argument("--yes", action="store_true", help="ask nothing")
     it.add_argument("--new-book", action="store_true",
@@ -107,9 +107,7 @@ def answers_of(words):
         return of_answers.read(words.file)
     if text := files.text(server.ANSWERS):
         return of_answers.Answers(json.loads(text)["answers"])
-    if words.check:
-        raise of_answers.Wrong("no set-up made this site: give the file of its answers")
-    return of_answers.asked()
+    raise of_answers.Wrong("no set-up made this site: give a file of answers, as --sample prints one")
 
 
 def tries(wanted, config):

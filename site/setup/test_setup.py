@@ -127,26 +127,6 @@ class Answers(unittest.TestCase):
         for found in (self.read(more), self.read(text, 0o644)):
             self.assertIsInstance(found, answers.Answers)
 
-    def asked(self, lines):
-        with mock.patch("sys.stdin", io.StringIO("\n".join(lines) + "\n")):
-            with contextlib.redirect_stderr(io.StringIO()):
-                return answers.asked()
-
-    def test_a_person_answers(self):
-        found = self.asked(["Hotel", "wifi.example.org", "CHF", "2", "2.50", "10.0.0.5", "anna ben",
-                            "lobby 10.0.0.1 mikrotik", "attic 10.0.2.0/24", ""])
-        self.assertEqual((found.host, found.cashiers), ("wifi.example.org", ["anna", "ben"]))
-        self.assertEqual([it["vendor"] for it in found.access_servers], ["mikrotik", "other"])
-        self.assertEqual((found.plans[0]["block"], found.plans[0]["unit"]), (4_000_000, 1))
-        self.assertEqual(self.asked([""] * 8).currency, "EUR")
-        self.assertRaises(answers.Wrong, self.asked, ["Hotel"])
-
-    def test_prices(self):
-        for text, block, unit in (("1.00", 10**7, 1), ("10.00", 10**6, 1), ("3.33", 10**9, 333),
-                                  ("12.34", 5 * 10**8, 617), ("0", 10**6, 0)):
-            plan = answers.price_of(text, 2)
-            self.assertEqual((plan["block"], plan["unit"]), (block, unit))
-
     def test_what_was_told_is_read_again(self):
         one = hotel(sql={"password_file": "/root/x"})
         found = json.loads(setup_command.kept(one))
