@@ -244,18 +244,18 @@ def loses_its_book(box):
 
 def from_outside(box):
     """Another machine: here the same one, by an address that is no client's."""
-    text = box.must("radacctl setup --outside")
-    look = lambda: box.beside(["python3", "-", "127.0.0.1", "127.0.0.66"], input=text)
+    words = ["python3", f"{ROOT}/site/setup/outside.py", "127.0.0.1", "127.0.0.66"]
+    look = lambda: box.beside(words)
     status, said = look()
     check("from outside the pages are open", (status, "443/tcp is open" in said), (0, True))
     box.must("journalctl --sync")
     told = [it for it in start_site.faults(box)[1] if "127.0.0.66" in it]
     check("and the site names who sent a packet", len(told), 1)
     box.must(FORGET)
-    words = ["nft", "add table inet wall; add chain inet wall in { type filter hook input priority "
-             "0; }; add rule inet wall in tcp dport 443 drop; "
-             "add rule inet wall in udp dport 1813 drop"]
-    check("a firewall", box.beside(words), (0, ""))
+    shut = ["nft", "add table inet wall; add chain inet wall in { type filter hook input priority "
+            "0; }; add rule inet wall in tcp dport 443 drop; "
+            "add rule inet wall in udp dport 1813 drop"]
+    check("a firewall", box.beside(shut), (0, ""))
     status, said = look()
     check("behind a firewall they are shut", (status, "443/tcp is shut" in said), (1, True))
     told = [it for it in start_site.faults(box)[1] if it.startswith("try-failed: ")]

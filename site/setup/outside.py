@@ -1,23 +1,18 @@
 """Looks at a site of radacctd from another machine: python3 outside.py HOST [LOCAL-ADDRESS].
 
-HOST is the name of the pages, or the site's address. It says whether a firewall is between this machine and the site. A port that answers is open.
-Reports and logins of a machine that is no client get no answer: the site's list of faults then
-names the address of this machine, unless the packets never came.
+A port of RADIUS answers nothing to a machine that is no client: the site's list of faults then names
+its address, unless a firewall is between.
 """
 
 import socket
 import ssl
 import sys
 
-# A report and a login without a secret: the site drops them, and says from where they came.
-PACKETS = {1813: bytes([4, 1, 0, 23]) + bytes(16) + b"\x01\x03?", 1812: bytes([1, 1, 0, 23])
-           + bytes(16) + b"\x01\x03?"}
 
-
-def page(address):
+def page(host):
     try:
-        with socket.create_connection((address, 443), 10) as it, \
-                ssl.create_default_context().wrap_socket(it, server_hostname=address):
+        with socket.create_connection((host, 443), 10) as it, \
+                ssl.create_default_context().wrap_socket(it, server_hostname=host):
             return "443/tcp is open"
     except ssl.SSLCertVerificationError as why:
         return f"443/tcp is open, and browsers warn: {why.verify_message}"
@@ -25,14 +20,14 @@ def page(address):
         return f"443/tcp is shut: {why}. Let browsers through, and see what the name leads to"
 
 
-def packet(address, port, own):
-    with socket.socket(socket.AF_INET6 if ":" in address else socket.AF_INET,
-                       socket.SOCK_DGRAM) as it:
-        it.bind((own, 0))
+def packet(host, own, port, code):
+    """A request without a secret: the site drops it, and says from where it came."""
+    with socket.socket(socket.AF_INET6 if ":" in host else socket.AF_INET, socket.SOCK_DGRAM) as it:
         it.settimeout(2)
         try:
-            it.connect((address, port))
-            it.send(PACKETS[port])
+            it.bind((own, 0))
+            it.connect((host, port))
+            it.send(bytes([code, 1, 0, 23]) + bytes(16) + b"\x01\x03?")
             it.recv(4096)
             return f"{port}/udp is open"
         except TimeoutError:
@@ -45,7 +40,7 @@ def packet(address, port, own):
 if __name__ == "__main__":
     if len(sys.argv) not in (2, 3):
         sys.exit(__doc__)
-    lines = [page(sys.argv[1]), *(packet(sys.argv[1], it, (sys.argv[2:] or [""])[0])
-                                  for it in (1812, 1813))]
+    to, own = [*sys.argv[1:], ""][:2]
+    lines = [page(to), packet(to, own, 1812, 1), packet(to, own, 1813, 4)]
     print("\n".join(lines))
     sys.exit(any("shut" in it for it in lines))

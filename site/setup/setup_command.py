@@ -16,14 +16,13 @@ tries the same as the set-up, if nothing grave is wrong. With FILE it prints wha
 status is 0 if nothing is wrong or to be done, 1 if something is, 2 for a wrong answer.
 """
 
-import inspect
 import itertools
 import json
 import os
 
 from radacctd_site.core import Failed, cli, features, files, steps
 from radacctd_site.core.steps import File
-from radacctd_site.setup import answers as of_answers, check, devices, outside, pages, server
+from radacctd_site.setup import answers as of_answers, check, devices, pages, server
 from radacctd_site.setup.config import Config
 
 LOCK = "/run/radacctd-setup.lock"
@@ -69,8 +68,6 @@ def arguments(it):
     it.add_argument("--new-book", action="store_true",
                     help="make an empty book for a site that lost its own: nobody has money then")
     it.add_argument("--sample", action="store_true", help="print a file of answers")
-    it.add_argument("--outside", action="store_true",
-                    help="print what looks from another machine: there, python3 - ADDRESS")
 
 
 def of_features(name, *given):
@@ -153,8 +150,8 @@ def do(words, wanted):
 
 
 def main(words):
-    if words.sample or words.outside:
-        print(SAMPLE if words.sample else inspect.getsource(outside), end="")
+    if words.sample:
+        print(SAMPLE, end="")
         return 0
     if os.geteuid() != 0:
         raise Failed("be root: what is secret could not be looked at")

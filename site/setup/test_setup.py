@@ -21,7 +21,7 @@ from unittest import mock
 from radacctd_site.core import (
     Failed, book, corrections, features, files, looks, machine, places, steps)
 from radacctd_site.setup import (
-    answers, beside, check, config, devices, outside, pages, server, setup_command)
+    answers, beside, check, config, devices, pages, server, setup_command)
 
 PLAN = {"class": "default", "block": 1000, "unit": 5}
 LOBBY = {"name": "lobby", "address": "10.0.0.1"}
@@ -669,8 +669,8 @@ class Check(Folder):
                 self.assertEqual(len(list(server.plans_lost(made))), count)
 
     def test_from_outside_a_shut_port_is_named(self):
-        said = subprocess.run(["python3", "-", "127.0.0.1"], capture_output=True, text=True,
-                              input=setup_command.inspect.getsource(outside)).stdout
+        said = subprocess.run(["python3", f"{places.TOP}/setup/outside.py", "127.0.0.1"],
+                              capture_output=True, text=True).stdout
         ports = [it.split(" ")[0].rstrip(":") for it in said.splitlines()]
         self.assertEqual(ports, ["443/tcp", "1812/udp", "1813/udp"])
 
