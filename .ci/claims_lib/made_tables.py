@@ -31,7 +31,6 @@ EXPLAINED = {
     **dict.fromkeys(("sales", "balance"), "[desk](../site/desk/README.md#who-sold-what)"),
     **dict.fromkeys(("show", "who"), "[operator](../site/operator/README.md)"),
     **dict.fromkeys(("package", "code"), "[packages](../site/packages/README.md)"),
-    "allow": "[desk](../site/desk/README.md#allowances)",
     **dict.fromkeys(("copy", "restore"), "[copies](../site/copies/README.md)"),
 }
 

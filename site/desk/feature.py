@@ -4,7 +4,6 @@ from radacctd_site.core.features import STAFF, Entry, Page
 
 COMMANDS = {
     "sell": ("sells to an account, or credits a file of vouchers", "sell"),
-    "allow": ("credits each account of a list once a month", "allow"),
     "sales": ("prints what was sold and taken back, by day and cashier", "ledger"),
     "balance": ("prints what is left on an account", "balance"),
 }

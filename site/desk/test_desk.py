@@ -3,15 +3,17 @@
 import contextlib
 import csv
 import io
+import os
 import re
 import sqlite3
+import subprocess
 import threading
 from unittest import mock
 
 from radacctd_site.core import Failed, accounts, acts, codes, desk, people, places, store
 from radacctd_site.core.features import CASHIER, OPERATOR
 from radacctd_site.core.test_client import PASSWORD, Browser, Site
-from radacctd_site.desk import allow, sales, sell
+from radacctd_site.desk import sales, sell
 
 
 class Desk(Site):
@@ -339,12 +341,12 @@ class Ledger(Desk):
 
 
 class Command(Desk):
-    def credit(self, text):
+    def credit(self, text, *more):
         """Credits a file of vouchers: what is printed."""
         with open(f"{self.folder}/vouchers.csv", "w", encoding="utf-8") as file:
             file.write(text)
         with mock.patch.object(sell, "FILE", file.name), mock.patch("sys.stdin", io.StringIO()):
-            return self.run_it("sell")
+            return self.run_it("sell", *more)
 
     def test_one_sale(self):
         self.assertIn("added 1", self.run_it("sell", "al", "5,50"))
@@ -431,42 +433,19 @@ class Command(Desk):
         with self.assertRaisesRegex(Failed, "Names like it: müller"):
             self.run_it("balance", "muller")
 
-
-class Allowances(Desk):
-    LIST = "account,sum\nal,5.00\n%C3%BC 1,6.00\nbo,7\n"
-
-    def allow(self, text=LIST, *more, month="2026-12"):
-        with open(f"{self.folder}/list.csv", "w", encoding="utf-8") as file:
-            file.write(text)
-        return self.run_it("allow", file.name, "--month", month, *more)
-
     def test_once_a_month(self):
-        once = {b"al": 500, b"bo": 700, "ü 1".encode(): 600}
-        for _ in range(3):
-            self.allow()
-            self.assertEqual(self.book.balances(), once)
-        self.allow(month="2027-01")
-        self.assertEqual(self.book.balances(), {it: 2 * total for it, total in once.items()})
+        """By the lines of the page. Two names of one number are not both credited, and it is said."""
+        with open(f"{os.path.dirname(__file__)}/README.md", encoding="utf-8") as file:
+            lines = re.search(r"(?ms)^    (\(echo .*?\)) \| radacctl sell --unpaid$", file.read())[1]
+        with open(f"{self.folder}/students", "w", encoding="utf-8") as file:
+            file.write("al\nbo@a.example\n")
+        made = lambda: subprocess.check_output(["sh", "-c", lines], cwd=self.folder, text=True)
+        for _ in range(2):
+            self.credit(made(), "--unpaid")
+            self.assertEqual(self.book.balances(), {b"al": 500, b"bo@a.example": 500})
+        self.credit(made().replace("2026-12", "2027-01"), "--unpaid")
+        self.assertEqual(self.book.balances(), {b"al": 1000, b"bo@a.example": 1000})
         self.assertEqual(self.run_it("sales"), "")
-
-    def test_one_sum_for_all_and_a_look_before(self):
-        said = self.allow("account\nal\nbo\n", "--sum", "2", "--dry-run")
-        self.assertIn("2 accounts, 4.00 EUR", said)
-        self.assertEqual(self.book.asked, [])
-
-    def test_another_sum_is_refused(self):
-        self.allow()
-        self.assertRaisesRegex(Failed, "al: differs", self.allow, "account,sum\nal,9.00\n")
-        self.assertEqual(self.book.balances()[b"al"], 500)
-
-    def test_of_a_wrong_list_nothing_is_sent(self):
-        for text in ("account,sum\nal,5\nal,5\n", "account,sum\n'x,5\n", "account\nal\n", "",
-                     "account,sum\nal,x\n", "account,sum\nal,5,6\n", "account,sum\n1.5E+11,5\n",
-                     'account,sum\n"' + "x" * 200_000, "account\ra\rb"):
-            self.assertRaises(Failed, self.allow, text)
-        self.assertRaises(Failed, self.allow, month="2026-13")
-        self.assertEqual(self.book.asked, [])
-
-    def test_numbers_are_numbers(self):
-        for account in ("al", "%C3%A9" * 126):
-            self.assertRegex(allow.number_of("2026-12", account), f"^(?:{desk.NUMBER.pattern})$")
+        with open(file.name, "a", encoding="utf-8") as file:
+            file.write("bo.a.example\n")
+        self.assertRaisesRegex(Failed, "bo.a.example: differs", self.credit, made())
