@@ -37,8 +37,7 @@ EXPLAINED = {
 
 def radacctl(checker):
     """Each command of radacctl with what its manual page says, and the page on it."""
-    page = text_of("man/radacctl.8").split("\n.Sh COMMANDS\n")[0]
-    found = dict(re.findall(r"^\.It Cm (\w+)\n(.*)$", page, re.M))
+    found = dict(re.findall(r"^\.It Cm (\w+)\n(.*)$", text_of("man/radacctl.8"), re.M))
     for name in sorted(set(found) ^ set(EXPLAINED)):
         checker.find(1, f"`radacctl {name}`: no such command, or no page: see made_tables.py")
     yield row("Command", "What it does", "Read")

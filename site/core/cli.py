@@ -84,30 +84,6 @@ def parser(name, module):
     return it
 
 
-def manual(name):
-    """What the manual page says of a command: its text, and each act with what it takes."""
-    module, lines = module_of(name), []
-    whole = parser(name, module)
-    acts = [(f"{name} {act.dest}", found.choices[act.dest], [act.help])
-            for found in whole._actions for act in getattr(found, "_choices_actions", ())]
-    for words, one, text in acts or [(name, whole, [])]:
-        options = [f"{'/'.join(it.option_strings) or it.dest}: {it.help}"
-                   for it in one._actions if it.help and it.dest != "help"]
-        if text or options:
-            lines += ["", f"    {' '.join(['radacctl', words, *spelled(one)])}",
-                      *(f"        {it}" for it in [*text, *options])]
-    return "\n".join([module.__doc__.rstrip(), *lines])
-
-
-def spelled(it):
-    """What an act takes, as its usage line has it."""
-    for found in it._actions:
-        word = " ".join([*found.option_strings[:1],
-                         *([] if found.nargs == 0 else [found.dest.upper()])])
-        if found.dest != "help":
-            yield f"[{word}]" if not found.required or found.nargs in ("?", "*") else word
-
-
 def module_of(name):
     return importlib.import_module(features.commands()[name][1])
 
