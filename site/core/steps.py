@@ -7,12 +7,12 @@ with its owner and mode: it is another name of the same file, which no program r
 
 import collections
 import contextlib
+import datetime
 import glob
 import grp
 import os
 import pwd
 import stat
-import time
 
 from radacctd_site.core import Failed, files, machine, places, told
 
@@ -184,14 +184,9 @@ class File(Step):
 
 
 def keep(folder, name):
-    """Gives a file a second name, which it keeps. One of the same second has a number."""
-    stamp = time.strftime("%Y%m%d-%H%M%S")
-    for number in range(1, 1000):
-        new = f"{name}~before-{stamp}" + (f".{number}" if number > 1 else "")
-        with contextlib.suppress(FileExistsError):
-            os.link(name, new, src_dir_fd=folder, dst_dir_fd=folder, follow_symlinks=False)
-            return
-    raise Failed(f"{name} has too many copies")
+    """Gives a file a second name, which it keeps."""
+    new = f"{name}~before-{datetime.datetime.now():%Y%m%d-%H%M%S.%f}"
+    os.link(name, new, src_dir_fd=folder, dst_dir_fd=folder, follow_symlinks=False)
 
 
 def is_fresh(unit, paths):
@@ -247,22 +242,18 @@ def folder_of(name, path):
                    *words, "mkdir", "-m", "700", path)
 
 
-def user(name, group=None):
-    """A user of radacctd's and its group, which the package says to systemd."""
-    def is_there():
-        names = [it.pw_name for it in pwd.getpwall()], [it.gr_name for it in grp.getgrall()]
-        return name in names[0] and (group or name) in names[1]
+def users():
+    """The users and groups that the package says to systemd. The pages' user reads the balances, and
+    nothing else of radacctd's.
+    """
+    def are_there():
+        groups = machine.given(["id", "-Gn", places.USER]).split()
+        return {*groups} == {places.USER, places.READERS} and not machine.run(
+            "id", places.SERVER_USER)[0]
 
-    return Command(f"make the user {name}", is_there, "systemd-sysusers")
-
-
-def member(name):
-    """Lets a user read the balances, and nothing else of radacctd's."""
-    def is_in():
-        return set(machine.given(["id", "-Gn", name]).split()) == {name, places.READERS}
-
-    return Command(f"let {name} read balances, and be in no further group", is_in, "usermod", "-G",
-                   places.READERS, name)
+    return Command(f"make radacctd's users, and let {places.USER} be in no further group", are_there,
+                   "sh", "-c", 'systemd-sysusers && usermod -G "$0" "$1"', places.READERS,
+                   places.USER)
 
 
 # After a power cut in the middle of an earlier installation, too. Another run of apt is waited for,

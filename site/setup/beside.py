@@ -1,8 +1,6 @@
-"""What no step sees of the machine: units that failed, replaced programs, the clock, disks."""
+"""What no step sees of the machine: units that failed, the clock, disks."""
 
-import glob
 import os
-import re
 import shutil
 import time
 
@@ -16,7 +14,6 @@ LEAST_PART, LEAST_OCTETS = 0.05, 1 << 30
 
 def seen():
     yield from failed()
-    yield from old_programs()
     yield from clock()
     devices = {}
     for path in (places.STATE, "/etc", places.BACKUPS, "/var/log", "/var/lib/radacctd-site"):
@@ -35,18 +32,6 @@ def failed():
         act = "reset-failed" if "@" in unit or "not-found" in line.split() else "start"
         yield Fault("unit-failed", f"{unit} has failed", f"journalctl -u {unit} -n 20; once it is "
                     f"mended: systemctl {act} {unit}")
-
-
-def old_programs():
-    """Processes whose program is no longer the file of its name."""
-    for path in glob.glob("/proc/[0-9]*/exe"):
-        try:
-            name = os.readlink(path)
-        except OSError:
-            continue
-        if re.search(r"/radacctd(?:\.dpkg\S*)? \(deleted\)$", name):
-            yield Fault("old-program", f"process {path.split('/')[2]} runs a radacctd that was "
-                        "replaced", "systemctl restart radacctd, or its own unit")
 
 
 def clock():

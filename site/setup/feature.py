@@ -20,7 +20,6 @@ CRITICAL = {
 WARNINGS = {
     "differs": "what the set-up makes is missing, or another one, or has other rights",
     "unit-failed": "a unit of the site has failed",
-    "old-program": "a process runs a program that was replaced or removed",
     "desk-open": "radacctd's desk, which sells, listens beyond this machine",
     "sample-value": "a secret or key is the sample's, which is public",
     "secret-short": "a secret has less than 16 characters",

@@ -38,7 +38,6 @@ SITE = "/var/lib/radacctd-site"
 USERS = f"runuser -u radacctd-site -- sqlite3 {SITE}/users.db"
 # A test that goes on over midnight has a copy of both days.
 LAST = f"$(ls -d {COPIES}/site-* | tail -1)"
-PROGRAM = "/usr/lib/radacctd/radacctd"
 # A report with a wrong secret, straight to radacctd, and to FreeRADIUS.
 WRONG = "echo 'User-Name=a,Acct-Status-Type=Start,Acct-Session-Id=1"
 SENT = "radclient -r 1 -t 1 127.0.0.1:11813 acct wrong; journalctl --sync"
@@ -176,8 +175,6 @@ BREAKS = {
     "certificate-old": kept("/etc/ssl/radacctd.pem", "openssl req -x509 -days 300 -subj "
                             f"/CN={start_site.HOST} -addext subjectAltName=DNS:{start_site.HOST} "
                             "-key /etc/ssl/private/radacctd.key -out /etc/ssl/radacctd.pem"),
-    "old-program": (f"cp -a {PROGRAM} {PROGRAM}.new; mv {PROGRAM}.new {PROGRAM}",
-                    "systemctl restart radacctd"),
     "sample-value": appended('\\n[[key]]\\ntoken = "al-key-0000000001"\\naccount = "al"\\n'),
     "secret-short": client("near", "10.9.9.9", "short"),
     "secret-shared": kept(CONFIG, SHARED),

@@ -74,7 +74,7 @@ def refuse_if_elsewhere(answers):
 def of(answers, config):
     """The steps, in their order."""
     refuse_if_elsewhere(answers)
-    yield steps.user(places.SERVER_USER, places.READERS)
+    yield steps.users()
     yield Command("make radacctd's folders", lambda: os.path.isdir(
         os.path.dirname(accounts.BALANCES)), "systemd-tmpfiles", "--create", "radacctd.conf")
     yield Folder(places.NOTES, 0o700)
@@ -88,13 +88,7 @@ def of(answers, config):
     # Before a restart, which fails as long as a plan waits.
     yield of_config.plan_step(config)
     yield Unit("radacctd.service", [corrections.DROP_IN, corrections.DEFAULTS])
-    yield from store(config)
-
-
-def store(config):
-    """What sells, also without pages: its user, who reads balances, its folder, key and timers."""
-    yield steps.user(places.USER)
-    yield steps.member(places.USER)
+    # What sells, also without pages.
     yield Folder(places.USUAL, 0o711, places.USER, places.USER)
     yield File(SITE_KEY, config.keys["site"] + "\n", 0o600)
     yield from map(Unit, units(".timer"))

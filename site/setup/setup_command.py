@@ -16,7 +16,6 @@ tries the same as the set-up, if nothing grave is wrong. With FILE it prints wha
 status is 0 if nothing is wrong or to be done, 1 if something is, 2 for a wrong answer.
 """
 
-import itertools
 import json
 import os
 
@@ -114,15 +113,6 @@ def tries(wanted, config):
         yield from pages.tries(wanted)
 
 
-def to_do(found):
-    """Prints what steps are to be done; those of one folder are a line."""
-    print("This is to be done:")
-    for place, group in itertools.groupby(found, lambda it: os.path.dirname(
-            getattr(it, "path", "")) or id(it)):
-        one, *more = group
-        print(f"  - {f'write {len(more) + 1} names in {place}' if more else one.what}")
-
-
 def do(words, wanted):
     """Does each step that is not done, and shows that the site works."""
     server.refuse_if_undated()
@@ -133,7 +123,7 @@ def do(words, wanted):
     if is_done:
         print("nothing is to be done")
     else:
-        to_do(found)
+        print("\n  - ".join(["This is to be done:", *(it.what for it in found)]))
     if is_done or words.check:
         return int(not is_done)
     cli.confirm("Do this?", words.yes)
