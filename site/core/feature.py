@@ -12,8 +12,6 @@ PAGES = [
     Page("GET", "/login/", "pages:login_form", ANYBODY),
     Page("POST", "/login/", "pages:log_in", ANYBODY),
     Page("POST", "/logout/", "pages:log_out", STAFF),
-    Page("GET", "/password/", "pages:password_form", STAFF),
-    Page("POST", "/password/", "pages:new_password", STAFF),
     Page("GET", "/site.css", "pages:style", ANYBODY),
 ]
 TABLES = acts.TABLES + people.TABLES

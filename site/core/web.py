@@ -11,7 +11,6 @@ import re
 import secrets
 import sqlite3
 import sys
-import urllib.parse
 
 import bottle
 import jinja2
@@ -170,7 +169,7 @@ def answered(page, does, parts):
             set_cookie("language", visit.language)
         if visit.role not in page.roles:
             if page.roles <= STAFF and visit.role == NOBODY and page.method == "GET":
-                return lead(f"/login/?{urllib.parse.urlencode({'to': visit.request.path})}")
+                return lead("/login/")
             return visit.say(visit.text("You may not do this."), 403)
         if page.method == "POST" and not visit.is_own():
             return visit.say(visit.text(
