@@ -18,14 +18,20 @@ HEADER = ["account", "balance", "overrun"]
 # The plans in force, which the service writes before radacctd starts.
 PLANS = os.environ.get("RADACCTD_PLANS", "/var/lib/radacctd-balances/plans.csv")
 SESSIONS, TOPUPS = "sessions", "topups"
-# How many names are shown of those that are like another one, and among how many they are sought.
-LIKE, SOUGHT = 20, 5000
+# How many names are shown of those that are like another one.
+LIKE = 20
+
+
+def opened(path):
+    """A file that radacctd writes: no link is followed, and a pipe in its place is not waited for."""
+    return open(path, encoding="ascii", newline="", opener=lambda it, flags: os.open(
+        it, flags | os.O_NOFOLLOW | os.O_NONBLOCK))
 
 
 def balances():
     """The balance of each account, and when the book wrote them."""
     try:
-        with open(BALANCES, encoding="ascii", newline="") as file:
+        with opened(BALANCES) as file:
             moment = int(os.fstat(file.fileno()).st_mtime)
             header, *rows = list(csv.reader(io.StringIO(file.read()))) or [[]]
         if header != HEADER:
@@ -55,7 +61,7 @@ def plans_in(lines):
 def plans():
     """Those of the service, or none if nobody knows them."""
     try:
-        with open(PLANS, encoding="ascii", newline="") as file:
+        with opened(PLANS) as file:
             return plans_in(file)
     except OSError:
         return {}
@@ -89,8 +95,5 @@ def like(text, accounts):
     """The names of accounts that have a text in them, or are nearly it; in their order."""
     wanted = folded(text)
     found = {it: folded(it) for it in map(names.readable, map(names.shown, accounts))}
-    near = {it for it, name in found.items() if wanted in name}
-    if len(found) <= SOUGHT:
-        near |= {it for it, name in found.items()
-                 if name in difflib.get_close_matches(wanted, [name], 1, 0.8)}
-    return sorted(near)[:LIKE]
+    near = difflib.get_close_matches(wanted, found.values(), LIKE, 0.8)
+    return sorted(it for it, name in found.items() if wanted in name or name in near)[:LIKE]

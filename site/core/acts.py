@@ -31,6 +31,9 @@ COMMAND = "(command)"
 # What ends an act: the book has said what became of it, and will say no other thing.
 TAKEN = (desks.NEW, desks.REPEAT)
 FINAL = (*TAKEN, desks.DIFFERS, desks.LIMIT)
+# How many were sold, how much was sold and given back, and both together.
+SUMS = """count(CASE WHEN paid > 0 THEN 1 END) AS count, coalesce(sum(max(paid, 0)), 0) AS sold,
+    coalesce(sum(min(paid, 0)), 0) AS back, coalesce(sum(paid), 0) AS net"""
 # What is said of it.
 SOLD, WAITING, REFUSED = "sold", "waiting", "refused"
 
@@ -96,6 +99,11 @@ def state_of(row):
     return REFUSED if row["answer"] in FINAL else WAITING
 
 
+def day(text):
+    """A day of a command line."""
+    return datetime.date.fromisoformat(text)
+
+
 def second_of(day):
     """The first second of a day by the clock of the site."""
     return int(datetime.datetime.combine(day, datetime.time()).timestamp())
@@ -117,27 +125,9 @@ def waiting(db, before=None):
                       (before, before)).fetchone()[0]
 
 
-def sums(rows):
-    """How much was sold and given back, and both together."""
-    sold = sum(it["paid"] for it in rows if it["paid"] > 0)
-    back = sum(it["paid"] for it in rows if it["paid"] < 0)
-    return {"count": sum(it["paid"] > 0 for it in rows), "sold": sold, "back": back,
-            "net": sold + back}
-
-
-def total(found):
-    """Such sums together."""
-    counter = collections.Counter()
-    for it in found:
-        counter.update(it)
-    return {key: counter[key] for key in ("count", "sold", "back", "net")}
-
-
-def by_day(rows):
-    """The sums of each day and person, of what the book has."""
-    groups = {}
-    for it in rows:
-        if state_of(it) == SOLD:
-            day = time.strftime("%Y-%m-%d", time.localtime(it["moment"]))
-            groups.setdefault((day, it["who"]), []).append(it)
-    return [(*key, sums(groups[key])) for key in sorted(groups)]
+def by_day(db, first, last, groups="day, who"):
+    """The sums of each day and person, or of each day, of what the book has."""
+    return db.execute(
+        f"SELECT date(answered, 'unixepoch', 'localtime') AS day, who, {SUMS} FROM act "
+        "WHERE answer IN ('new', 'repeat') AND paid <> 0 AND day BETWEEN ? AND ? "
+        f"GROUP BY {groups} ORDER BY {groups}", (str(first), str(last))).fetchall()

@@ -104,8 +104,11 @@ def as_user(user):
 
 
 def text_of(user, path):
-    """The text of a file in a folder of a user's, which that user reads; "" if there is none."""
-    done = ran([*as_user(user), "head", "-c", str(1 << 26), "--", path])
+    """The text of a file in a folder of a user's, which that user reads; "" if there is none. No link
+    is followed, and a pipe in its place is not waited for.
+    """
+    done = ran([*as_user(user), "dd", f"if={path}", "iflag=nonblock,nofollow", "bs=64K",
+                "count=1024", "status=none"])
     if done.returncode and "No such file" not in done.stderr:
         raise Failed(f"{path} cannot be read: {last_line(done.stderr)}")
     return done.stdout

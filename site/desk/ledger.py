@@ -6,36 +6,29 @@ guests redeemed have no cashier.
 
 import datetime
 
-from radacctd_site.core import Failed, acts, money, places, store
+from radacctd_site.core import acts, money, places, store
 from radacctd_site.desk import sales
 
 
 def arguments(it):
-    it.add_argument("--first", metavar="DAY", help="the first day, as 2026-12-31; else today")
-    it.add_argument("--last", metavar="DAY", help="the last day")
+    for name in ("first", "last"):
+        it.add_argument(f"--{name}", metavar="DAY", type=acts.day, default=datetime.date.today(),
+                        help=f"the {name} day, as 2026-12-31; else today")
     it.add_argument("--csv", action="store_true", help="print each sale as a line of CSV")
 
 
-def days(words):
-    today = datetime.date.today().isoformat()
-    try:
-        return [datetime.date.fromisoformat(it or today) for it in (words.first, words.last)]
-    except ValueError:
-        raise Failed("a day is as 2026-12-31") from None
-
-
 def main(words):
-    first, last = days(words)
     site = money.of_site(places.SETTINGS)
     places.become_user()
     with store.opened() as db:
-        rows = acts.of_days(db, first, last)
+        rows = acts.of_days(db, words.first, words.last)
+        days = acts.by_day(db, words.first, words.last)
     if words.csv:
         print(sales.csv_of(rows, site), end="")
         return 0
-    for day, who, it in acts.by_day(rows):
+    for it in days:
         sold, back, net = map(site.shown, (it["sold"], -it["back"], it["net"]))
-        print(f"{day}  {who or 'vouchers':16} {it['count']:5} sales  sold {sold}, "
+        print(f"{it['day']}  {it['who'] or 'vouchers':16} {it['count']:5} sales  sold {sold}, "
               f"taken back {back}, net {net}")
     if waiting := sum(acts.state_of(it) == acts.WAITING for it in rows):
         print(f"{waiting} have no answer yet: they are in no sum")

@@ -117,9 +117,8 @@ def seen(db, octets, known):
 
 def shift(visit, said=""):
     db, who = visit.db, visit.name
-    rows = sales.of_shift(db, who)
-    sums = acts.sums(rows)
-    return visit.page("desk/shift.html", rows=rows, net=sums["net"], said=said,
+    sums = sales.sums(db, who)
+    return visit.page("desk/shift.html", rows=sales.of_shift(db, who), net=sums["net"], said=said,
                       counted=counted(visit, sums),
                       waiting=sales.waiting(db, who), today=datetime.date.today(),
                       shifts=sales.shifts(db, who, visit.role), readable=names.readable)
@@ -134,7 +133,7 @@ def counted(visit, it):
 def end_shift(visit):
     """Asks, and then ends the shift."""
     if not visit.field("sure"):
-        it, text = acts.sums(sales.of_shift(visit.db, visit.name)), visit.text
+        it, text = sales.sums(visit.db, visit.name), visit.text
         more = [counted(visit, it)]
         if waiting := len(sales.waiting(visit.db, visit.name)):
             more.append(text("%(count)s have no answer yet: leave their money in the drawer. They "

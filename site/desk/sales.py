@@ -8,7 +8,7 @@ so that no clock decides, and what has ended does not change.
 import time
 
 from radacctd_site.core import Failed, accounts, acts, codes, corrections, names, places
-from radacctd_site.core.acts import SOLD, TAKEN, Act, state_of, sums
+from radacctd_site.core.acts import SOLD, SUMS, TAKEN, Act, state_of
 from radacctd_site.core.features import OPERATOR
 
 SALE, BACK = "sale", "back"
@@ -72,6 +72,11 @@ def of_shift(db, who):
     return db.execute(f"SELECT * {OPEN} ORDER BY answered DESC, rowid DESC", (who,)).fetchall()
 
 
+def sums(db, who):
+    """The sums of the same."""
+    return db.execute(f"SELECT {SUMS} {OPEN}", (who,)).fetchone()
+
+
 def waiting(db, who):
     """What the book has not answered yet."""
     return db.execute("SELECT * FROM act WHERE who = ? AND answer IS NULL ORDER BY begun",
@@ -92,11 +97,10 @@ def end_shift(db, who):
 
 def shifts(db, who, role, most=10):
     """The last shifts of a person, or of everybody for an operator, with their sums."""
-    rows = db.execute("SELECT * FROM shift WHERE ? OR who = ? ORDER BY id DESC LIMIT ?",
-                      (role == OPERATOR, who, most)).fetchall()
-    of_one = ("SELECT act.paid FROM counted JOIN act USING (number, account, sum) "
-              "WHERE counted.shift = ?")
-    return [{**it, **sums(db.execute(of_one, (it["id"],)).fetchall())} for it in rows]
+    return db.execute(
+        f"SELECT shift.*, {SUMS} FROM shift JOIN counted ON counted.shift = shift.id "
+        "JOIN act USING (number, account, sum) WHERE ? OR shift.who = ? "
+        "GROUP BY id ORDER BY id DESC LIMIT ?", (role == OPERATOR, who, most)).fetchall()
 
 
 def csv_of(rows, site):

@@ -9,7 +9,6 @@ not answer yet.
 """
 
 import collections
-import datetime
 import sqlite3
 import sys
 
@@ -30,8 +29,8 @@ def arguments(it):
     it.add_argument("account", nargs="?", help="who gets it")
     it.add_argument("sum", nargs="?", help="how much, in the site's money, as 5.00; -5.00 is "
                     "taken back")
-    it.add_argument("--again", metavar="DAY", help="send again what was sold since a day, as "
-                    "2026-12-31, to a book that was put back from a copy")
+    it.add_argument("--again", metavar="DAY", type=acts.day, help="send again what was sold since "
+                    "a day, as 2026-12-31, to a book that was put back from a copy")
     it.add_argument("--unpaid", action="store_true", help="nothing was paid: it counts in no total")
 
 
@@ -114,22 +113,14 @@ def again(db, book, day):
           f"{counts[desk.DIFFERS] + counts[desk.LIMIT]} are refused")
 
 
-def day_of(text):
-    try:
-        return datetime.date.fromisoformat(text)
-    except ValueError:
-        raise Failed(f"a day is as 2026-12-31, not {text}") from None
-
-
 def main(words):
     # All of it is read as whoever gave the command.
-    book, day = places.book(), day_of(words.again) if words.again else None
-    found = [] if day else asked(words)
+    book, found = places.book(), [] if words.again else asked(words)
     if words.unpaid:
         found = [it._replace(paid=0) for it in found]
     if words.account:
         print(f"number {found[0].number}")
     places.become_user()
     with store.opened() as db:
-        again(db, book, day) if day else sell(db, book, found)
+        again(db, book, words.again) if words.again else sell(db, book, found)
     return 0

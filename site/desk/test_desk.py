@@ -3,7 +3,6 @@
 import contextlib
 import csv
 import io
-import os
 import re
 import sqlite3
 import subprocess
@@ -337,7 +336,8 @@ class Ledger(Desk):
         self.assertIn("net 2.00 EUR", said)
         self.assertEqual(len(self.run_it("sales", "--csv").splitlines()), 4)
         self.assertEqual(self.run_it("sales", "--first", "2020-01-01", "--last", "2020-01-02"), "")
-        self.assertRaises(Failed, self.run_it, "sales", "--first", "x")
+        with contextlib.redirect_stderr(io.StringIO()), self.assertRaises(SystemExit):
+            self.run_it("sales", "--first", "x")
 
 
 class Command(Desk):
@@ -435,7 +435,7 @@ class Command(Desk):
 
     def test_once_a_month(self):
         """By the lines of the page. Two names of one number are not both credited, and it is said."""
-        with open(f"{os.path.dirname(__file__)}/README.md", encoding="utf-8") as file:
+        with open(f"{places.TOP}/desk/README.md", encoding="utf-8") as file:
             lines = re.search(r"(?ms)^    (\(echo .*?\)) \| radacctl sell --unpaid$", file.read())[1]
         with open(f"{self.folder}/students", "w", encoding="utf-8") as file:
             file.write("al\nbo@a.example\n")

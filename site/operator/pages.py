@@ -9,6 +9,7 @@ from radacctd_site.operator import sessions
 
 # How many days are shown, and how many lines of a list.
 DAYS, LINES = 30, 200
+NOTHING = dict.fromkeys(("count", "sold", "back", "net"), 0)
 # A column of a plot: its name, how high it is above and below the line, what is shown of it, and
 # its line of the table.
 Column = collections.namedtuple("Column", "name above below text cells")
@@ -18,7 +19,7 @@ def look(visit):
     book, (known, moment) = places.book(), accounts.known()
     found, now = sessions.of_all(book, known), int(time.time())
     sold = by_day(visit.db, datetime.date.today())
-    total = acts.total(it for _, it in sold)
+    total = {key: sum(it[key] for _, it in sold) for key in NOTHING}
     hours = sessions.by_hour(found or (), now)
     return visit.page(
         "operator/look.html", moment=moment, lines=LINES, is_told=found is not None,
@@ -38,11 +39,10 @@ def day_column(visit, day, it):
 
 def by_day(db, today):
     """The sums of each of the last days, all persons together."""
-    first, rows = today - datetime.timedelta(days=DAYS - 1), {}
-    for day, _, it in acts.by_day(acts.of_days(db, first, today)):
-        rows.setdefault(day, []).append(it)
-    days = ((first + datetime.timedelta(days=at)).isoformat() for at in range(DAYS))
-    return [(day, acts.total(rows.get(day, ()))) for day in days]
+    first = today - datetime.timedelta(days=DAYS - 1)
+    rows = {it["day"]: it for it in acts.by_day(db, first, today, "day")}
+    days = (str(first + datetime.timedelta(days=at)) for at in range(DAYS))
+    return [(day, rows.get(day, NOTHING)) for day in days]
 
 
 def overdrawn(visit, book):

@@ -19,7 +19,7 @@ import unittest
 from unittest import mock
 
 from radacctd_site.core import (
-    Failed, book, corrections, features, files, looks, machine, places, steps)
+    Failed, accounts, book, corrections, features, files, looks, machine, places, steps)
 from radacctd_site.setup import (
     answers, beside, check, config, devices, pages, server, setup_command)
 
@@ -369,6 +369,9 @@ class Attacked(Folder):
         os.remove(path)
         os.mkfifo(path)
         self.assertRaises(OSError, files.text, path)
+        self.assertEqual(machine.text_of(ATTACKER, path), "")
+        with mock.patch.object(accounts, "BALANCES", path):
+            self.assertRaises(Failed, accounts.balances)
         self.assertEqual(self.state()[1].st_mode, self.before[1].st_mode)
 
     def test_a_user_has_no_group_that_its_service_lacks(self):
