@@ -10,7 +10,7 @@ RUN = {
 }
 # Pages whose commands a person types, and why no script does.
 BY_HAND = {
-    "README": "bin/try and bin/build run it",
+    "README": "bin/radacctd and bin/build run it",
     "docs/A-LARGE-SITE": "interop/forward does the same over its own books, interop/systemd types "
                          "the steps of a change; the kernel's settings nobody does",
     "docs/ACCESS-SERVERS": "each setting is of another maker's device: interop/access-servers",
