@@ -109,14 +109,12 @@ def second_of(day):
     return int(datetime.datetime.combine(day, datetime.time()).timestamp())
 
 
-def of_days(db, first, last, who=None):
-    """What was paid in some days, by the moment of the book's answer, or else as it was begun; by
-    one person, or all.
-    """
+def of_days(db, first, last):
+    """What was paid in some days, by the moment of the book's answer, or else as it was begun."""
     end = second_of(last + datetime.timedelta(days=1))
     return db.execute("SELECT *, coalesce(answered, begun) AS moment FROM act WHERE paid <> 0 "
-                      "AND moment >= ? AND moment < ? AND (? IS NULL OR who = ?) "
-                      "ORDER BY moment, rowid", (second_of(first), end, who, who)).fetchall()
+                      "AND moment >= ? AND moment < ? ORDER BY moment, rowid",
+                      (second_of(first), end)).fetchall()
 
 
 def waiting(db, before=None):

@@ -15,7 +15,6 @@ PAGES = [
     Page("GET", "/desk/find/", "pages:find", STAFF),
     Page("GET", "/desk/shift/", "pages:shift", STAFF),
     Page("POST", "/desk/shift/", "pages:end_shift", STAFF),
-    Page("GET", "/desk/sales.csv", "pages:ledger", STAFF),
 ]
 MENU = [Entry("/desk/", "Sell", STAFF), Entry("/desk/find/", "Find an account", STAFF),
         Entry("/desk/shift/", "Shift", STAFF)]

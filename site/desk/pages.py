@@ -1,12 +1,7 @@
 """The front desk's pages: one question at a time."""
 
-import datetime
-
-import bottle
-
 from radacctd_site.core import accounts, acts, names, places, web
 from radacctd_site.core.desk import AWAY, DIFFERS, LIMIT
-from radacctd_site.core.features import OPERATOR
 from radacctd_site.desk import sales
 
 # Of an account's sessions and sums so many are listed, the newest.
@@ -95,24 +90,22 @@ def find(visit):
     text = (visit.request.query.getunicode("account") or "").strip()
     known, moment = accounts.known()
     octets = names.octets_typed(text)
-    it = seen(visit.db, octets, known) if text else None
+    it = seen(octets, known) if text else None
     near = accounts.like(text, known) if text and it is None else []
     return visit.page("desk/find.html", text=text, it=it, moment=moment, near=near)
 
 
-def seen(db, octets, known):
-    """What the book has of an account, if it has it."""
+def seen(octets, known):
+    """What the book has of an account, if it has it; None of what its desk does not tell."""
     if octets not in known:
         return None
-    book = places.book()
-    sessions = accounts.told(book, octets, accounts.SESSIONS)
-    topups = accounts.told(book, octets, accounts.TOPUPS) if sessions is not None else None
-    if topups is None:
-        topups = [{"when": it["answered"], "voucher": it["number"], "sum": it["sum"]}
-                  for it in acts.of_account(db, names.for_desk(octets))]
-    newest = lambda rows, key: sorted(rows or (), key=lambda it: -it[key])[:LINES]
-    return {"balance": known[octets], "sessions": newest(sessions, "last"),
-            "is_told": sessions is not None, "topups": newest(topups, "when")}
+
+    def newest(question, key):
+        found = accounts.told(places.book(), octets, question)
+        return found and sorted(found, key=lambda it: -it[key])[:LINES]
+
+    return {"balance": known[octets], "sessions": newest(accounts.SESSIONS, "last"),
+            "topups": newest(accounts.TOPUPS, "when")}
 
 
 def shift(visit, said=""):
@@ -120,7 +113,7 @@ def shift(visit, said=""):
     sums = sales.sums(db, who)
     return visit.page("desk/shift.html", rows=sales.of_shift(db, who), net=sums["net"], said=said,
                       counted=counted(visit, sums),
-                      waiting=sales.waiting(db, who), today=datetime.date.today(),
+                      waiting=sales.waiting(db, who),
                       shifts=sales.shifts(db, who, visit.role), readable=names.readable)
 
 
@@ -146,17 +139,3 @@ def end_shift(visit):
     is_ended = sales.end_shift(visit.db, visit.name)
     return shift(visit, visit.text("The shift has ended. Its sums stay below.") if is_ended else
                  visit.text("Nothing was sold since the last shift."))
-
-
-def ledger(visit):
-    """What was sold in some days, for a spreadsheet: a cashier's own, or all for an operator."""
-    try:
-        first, last = (datetime.date.fromisoformat(visit.request.query.get(it, ""))
-                       for it in ("first", "last"))
-        rows = acts.of_days(visit.db, first, last, None if visit.role == OPERATOR else visit.name)
-    except (ValueError, OverflowError):
-        return visit.say(visit.text("A day is as 2026-12-31."), 422)
-    bottle.response.headers.update({
-        **web.HEADERS, "Content-Type": "text/csv; charset=utf-8",
-        "Content-Disposition": f'attachment; filename="sales-{first}-{last}.csv"'})
-    return sales.csv_of(rows, visit.money())

@@ -15,7 +15,6 @@ SALE, BACK = "sale", "back"
 # What was paid or given back, and no shift has counted yet.
 OPEN = """FROM act WHERE who = ? AND paid <> 0 AND answer IN ('new', 'repeat') AND NOT EXISTS (
     SELECT 1 FROM counted WHERE (number, account, sum) = (act.number, act.account, act.sum))"""
-COLUMNS = ("moment", "number", "account", "what", "cashier", "credit", "paid", "state")
 
 
 def new_number():
@@ -101,11 +100,3 @@ def shifts(db, who, role, most=10):
         f"SELECT shift.*, {SUMS} FROM shift JOIN counted ON counted.shift = shift.id "
         "JOIN act USING (number, account, sum) WHERE ? OR shift.who = ? "
         "GROUP BY id ORDER BY id DESC LIMIT ?", (role == OPERATOR, who, most)).fetchall()
-
-
-def csv_of(rows, site):
-    """The same for a ledger, each act a line."""
-    return names.csv_of(COLUMNS, [
-        (time.strftime("%Y-%m-%d %H:%M:%S", time.localtime(it["moment"])), it["number"],
-         names.readable(it["account"]), it["kind"], it["who"], site.plain(it["sum"]),
-         site.plain(it["paid"]), state_of(it)) for it in rows])
