@@ -1,4 +1,4 @@
-"""The operator's page: plots first, and a table of each for who wants the numbers."""
+"""The operator's page: plots, and lists of who is below 0 and who is on."""
 
 import collections
 import datetime
@@ -10,9 +10,8 @@ from radacctd_site.operator import sessions
 # How many days are shown, and how many lines of a list.
 DAYS, LINES = 30, 200
 NOTHING = dict.fromkeys(("count", "sold", "back", "net"), 0)
-# A column of a plot: its name, how high it is above and below the line, what is shown of it, and
-# its line of the table.
-Column = collections.namedtuple("Column", "name above below text cells")
+# A column of a plot: its name, how high it is above and below the line, and what is shown of it.
+Column = collections.namedtuple("Column", "name above below text")
 
 
 def look(visit):
@@ -25,16 +24,10 @@ def look(visit):
         "operator/look.html", moment=moment, lines=LINES, is_told=found is not None,
         left_out=len(known) > sessions.MOST, most=sessions.MOST, now=now,
         on=sessions.on(found or (), now), today=sold[-1][1], total=total,
-        days=[day_column(visit, *it) for it in sold], overdrawn=overdrawn(visit, book),
-        hours=[Column(name, octets, 0, visit.data(octets), (name, visit.data(octets)))
-               for name, octets in hours],
+        days=[Column(day, it["sold"], -it["back"], visit.sum(it["net"])) for day, it in sold],
+        hours=[Column(name, octets, 0, visit.data(octets)) for name, octets in hours],
+        overdrawn=overdrawn(visit, book),
         octets=sum(octets for _, octets in hours), waiting=acts.waiting(visit.db))
-
-
-def day_column(visit, day, it):
-    net = visit.sum(it["net"])
-    return Column(day, it["sold"], -it["back"], net,
-                  (day, it["count"], visit.sum(it["sold"]), visit.sum(-it["back"]), net))
 
 
 def by_day(db, today):
@@ -51,6 +44,4 @@ def overdrawn(visit, book):
     if status != 200:
         return None
     rows = sorted(found["overruns"], key=lambda it: -it["overrun"])
-    return [Column(name, it["overrun"], 0, visit.sum(it["overrun"]),
-                   (name, visit.sum(it["overrun"])))
-            for it in rows for name in [names.readable(it["account"])]]
+    return [(names.readable(it["account"]), visit.sum(it["overrun"])) for it in rows]

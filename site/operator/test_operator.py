@@ -43,7 +43,7 @@ class Operator(Site):
     def test_plots_stand_before_tables_and_have_a_text(self):
         self.tell(al=[session(self.now - 60, self.now)])
         page = self.page()
-        self.assertEqual(page.count('<svg class="plot" role="img" aria-label="'), 3)
+        self.assertEqual(page.count('<svg class="plot" role="img" aria-label="'), 2)
         for text in ("8.00\u00a0EUR sold, 5.00\u00a0EUR taken back, 3.00\u00a0EUR net",
                      "2 accounts are below 0. The most: al, 7.00\u00a0EUR", "bö",
                      "3.0\u00a0GB in 24 hours", "02-00"):
