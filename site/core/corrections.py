@@ -24,6 +24,11 @@ USUAL = "127.0.0.1", 1813
 TRIES, PATIENCE = 2, 3
 
 
+def is_use(session):
+    """Whether a session is a guest's own: no correction, and no line of what was carried forward."""
+    return session["client"] != CLIENT and not session["client"].startswith("(")
+
+
 def settings():
     """Addresses and ports of the service, by the names of its unit, that are not the usual ones."""
     text = ""

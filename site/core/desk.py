@@ -75,20 +75,20 @@ def ask(where, method, path, key, body=None, patience=30, connect=None, most=1 <
         caller.close()
 
 
-def secret_in(path, may_read=lambda status: False):
-    """The octets of a file that only its owner may read, unless `may_read` says so."""
+def secret_in(path, is_handed=False):
+    """The octets of a file that only its owner may read, unless systemd has handed it on."""
     with told(WrongKey, f"cannot read {path}: "), open(path, "rb") as file:
         found = os.fstat(file.fileno())
         octets = file.read(65_536)
     is_open = stat.S_IMODE(found.st_mode) & 0o077 or found.st_uid not in (0, os.getuid())
-    if is_open and not may_read(found):
+    if is_open and not is_handed:
         raise WrongKey(f"others may read {path}, or it is another user's: chmod 600 {path}")
     return octets
 
 
-def key_in(path, may_read=lambda status: False):
+def key_in(path, is_handed=False):
     """The key of a file, which stands alone on its first line."""
-    line, _, rest = secret_in(path, may_read).decode("ascii", "replace").partition("\n")
+    line, _, rest = secret_in(path, is_handed).decode("ascii", "replace").partition("\n")
     if not TOKEN.fullmatch(line.strip()) or rest.strip():
         raise WrongKey(f"{path} is to have one key on one line: 16 to 64 of A-Z a-z 0-9 and -")
     return line.strip()

@@ -95,16 +95,13 @@ def csv_of(header, rows):
     return file.getvalue()
 
 
-def records_in(path, columns, one, marks=","):
+def records_in(path, columns, one):
     """What `one` makes of each record of a CSV file of a person's, which it gets by column, or the
     ValueError that says why not. Nothing is taken of a file of which a part is wrong.
     """
     with told(WrongFile, f"cannot read {path}: ", OSError, csv.Error):
         with open(path, encoding="utf-8-sig", errors="surrogateescape", newline="") as file:
-            text = file.read()
-        mark = next((it for it in marks if it in text.partition("\n")[0]), ",")
-        header, *rows = [it for it in csv.reader(io.StringIO(text, newline=""), delimiter=mark)
-                         if it] or [[]]
+            header, *rows = [it for it in csv.reader(file) if it] or [[]]
     if any(header.count(it) != 1 for it in columns):
         raise WrongFile(f"the header of {path} is `{','.join(header)[:200]}`, and is to have "
                         f"{','.join(columns)}, each once")

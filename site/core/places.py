@@ -44,8 +44,8 @@ def book():
     """The book's desk, with the key, and the secret if there is one."""
     host, _, port = os.environ.get("RADACCTD_DESK", "127.0.0.1:8066").rpartition(":")
     is_handed = "CREDENTIALS_DIRECTORY" in os.environ
-    key = desk.key_in(KEY, lambda _: is_handed)
-    secret = desk.secret_in(SECRET, lambda _: is_handed) if os.path.exists(SECRET) else b""
+    key = desk.key_in(KEY, is_handed)
+    secret = desk.secret_in(SECRET, is_handed) if os.path.exists(SECRET) else b""
     return desk.Desk((host, int(port)), key, secret.rstrip(b"\r\n"))
 
 

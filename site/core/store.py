@@ -14,17 +14,13 @@ from radacctd_site.core import features, places
 PATIENCE = 5
 
 
-def connected(path=None):
-    """A connection. `with` it is a transaction; sqlite3.Error says that nothing of it was written."""
-    path = path or places.DATABASE
-    db = sqlite3.connect(path, timeout=PATIENCE, isolation_level="IMMEDIATE")
+def opened(path=None):
+    """A connection, closed at its end. `with` it is a transaction; sqlite3.Error says that nothing of
+    it was written.
+    """
+    os.umask(0o077)
+    db = sqlite3.connect(path or places.DATABASE, timeout=PATIENCE, isolation_level="IMMEDIATE")
     db.row_factory = sqlite3.Row
     db.executescript("PRAGMA journal_mode = WAL; PRAGMA synchronous = FULL; "
                      f"PRAGMA foreign_keys = ON; {features.tables()}")
-    return db
-
-
-def opened(path=None):
-    """The same, closed at its end."""
-    os.umask(0o077)
-    return contextlib.closing(connected(path))
+    return contextlib.closing(db)

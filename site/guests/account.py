@@ -3,12 +3,9 @@
 import collections
 
 from radacctd_site.core import accounts, names
-
-# What is not a guest's own use: a correction, and what was carried forward, a line for each plan.
-CORRECTIONS = "books"
+from radacctd_site.core.corrections import CLASS, CLIENT, is_use
 
 Session = collections.namedtuple("Session", "last state octets charged")
-Seen = collections.namedtuple("Seen", "account balance bought sessions older topups")
 # Of sessions and sums so many are listed, the newest.
 LINES = 100
 
@@ -26,15 +23,16 @@ def asked(book, account):
 def seen(account, balance, sessions, topups):
     """The same as a guest sees it: the newest first, and what was carried forward last."""
     topups = sorted(topups, key=lambda it: -it["when"])
-    lines = sorted(sessions, key=lambda it: (it["client"].startswith("("), -it["last"]))
-    lines = list(map(session_of, lines))
-    return Seen(account, balance, sum(it["sum"] for it in topups), lines[:LINES], lines[LINES:],
-                topups[:LINES])
+    lines = [*map(session_of, sorted(sessions, key=lambda it: (
+        it["client"].startswith("("), -it["last"])))]
+    return {"account": account, "balance": balance, "sessions": lines[:LINES],
+            "older": lines[LINES:], "topups": topups[:LINES],
+            "share": share(balance, sum(it["sum"] for it in topups))}
 
 
 def session_of(it):
     charged = int(it["charged"])
-    if it["client"] == CORRECTIONS and it["class"] == "debit":
+    if (it["client"], it["class"]) == (CLIENT, CLASS):
         return Session(it["last"], "correction", None, charged)
     if it["client"].startswith("("):
         return Session(None, "earlier", None, charged)
@@ -45,8 +43,7 @@ def plan_of(sessions, known):
     """The plan by which the guest goes on: that of the latest session. Before the first one it is
     certain only if the site has no other plan than `default`.
     """
-    own = [it for it in sessions if it["client"] != CORRECTIONS and it["client"][:1] != "("]
-    if own:
+    if own := [*filter(is_use, sessions)]:
         name = max(own, key=lambda it: it["last"])["class"]
         return known.get(name, known.get("default"))
     return known.get("default") if set(known) <= {"default", "debit"} else None

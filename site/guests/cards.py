@@ -3,14 +3,10 @@
 An account has one card: a new one ends the one before. site.db has the digest of its key.
 """
 
-import hashlib
 import time
 
 from radacctd_site.core import codes, paper, places
-
-
-def digest_of(key):
-    return hashlib.sha256(key.encode()).digest()
+from radacctd_site.core.people import digest_of
 
 
 def whose(db, key):

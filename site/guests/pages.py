@@ -28,7 +28,13 @@ def look(visit):
         return asks(visit, visit.text(
             "The accounts cannot be reached now. Wait a minute, then load the page again. Nothing is "
             "lost."), 503)
-    return visit.page("guests/account.html", **shown(visit, whose, *found))
+    balance, sessions, _ = found
+    known = accounts.plans()
+    plan = account.plan_of(sessions, known)
+    octets = account.buys(balance, plan) if plan else None
+    return visit.page("guests/account.html", plan=plan, known=known,
+                      about=visit.data(octets) if octets is not None else "",
+                      **account.seen(whose, *found))
 
 
 def give(visit):
@@ -50,13 +56,3 @@ def use(visit, text):
 
 def asks(visit, said="", status=200):
     return visit.page("guests/key.html", status, said=said)
-
-
-def shown(visit, whose, balance, sessions, topups):
-    """What the page has: sums in the site's money, data in GB."""
-    it, known = account.seen(whose, balance, sessions, topups), accounts.plans()
-    plan = account.plan_of(sessions, known)
-    octets = account.buys(it.balance, plan) if plan else None
-    return {"seen": it, "plan": plan, "known": known,
-            "about": visit.data(octets) if octets is not None else "",
-            "share": account.share(it.balance, it.bought)}

@@ -4,17 +4,12 @@ import concurrent.futures
 import time
 
 from radacctd_site.core import accounts, names
-from radacctd_site.core.corrections import CLIENT
+from radacctd_site.core.corrections import is_use
 
 # Of so many accounts the desk is asked, so many at once; in seconds, how long a session that is on
 # may be silent.
 MOST, AT_ONCE, HEARD = 5000, 8, 900
 HOURS, HOUR = 24, 3600
-
-
-def is_use(session):
-    """Whether it is a guest's own: no correction, no line of sessions that were carried forward."""
-    return session["client"] != CLIENT and not session["client"].startswith("(")
 
 
 def of_all(book, known):

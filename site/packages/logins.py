@@ -30,7 +30,7 @@ FROM login LEFT JOIN act ON act.number = login.number AND act.kind = '{KIND}'
 
 
 def key():
-    return desk.key_in(KEY, lambda _: "CREDENTIALS_DIRECTORY" in os.environ)
+    return desk.key_in(KEY, "CREDENTIALS_DIRECTORY" in os.environ)
 
 
 def drawn(digest_key, package, code, who, name="", sheet=""):

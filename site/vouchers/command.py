@@ -4,7 +4,7 @@ A sheet is a page: print it at https://HOST/vouchers/SHEET, or write it by `prin
 a browser prints. A withdrawn code stays so, also if an older site.db is put back: the book has it.
 """
 
-from radacctd_site.core import Failed, cli, codes, money, names, paper, places, store
+from radacctd_site.core import Failed, cli, money, names, paper, places, store
 from radacctd_site.vouchers import pages, vouchers
 
 
@@ -18,8 +18,7 @@ def arguments(it):
     printed = acts.add_parser("print", help="print a sheet as a page for a browser (HTML)")
     printed.add_argument("sheet")
     withdraw = acts.add_parser("withdraw", help="end codes for ever")
-    withdraw.add_argument("what", nargs="*", help="a sheet's name, a code, or W- and a code")
-    withdraw.add_argument("--file", help="a CSV file with a column `code`")
+    withdraw.add_argument("what", nargs="+", help="a sheet's name, a code, or W- and a code")
     for one in (make, withdraw):
         one.add_argument("--yes", action="store_true", help="ask nothing")
 
@@ -43,26 +42,14 @@ def show(db, sheet):
     site = money.of_site(places.SETTINGS)
     if not sheet:
         for it in vouchers.sheets(db):
-            print(f"{it.name}: of {site.shown(it.sum)}: live {it.live}, given {it.given}, "
-                  f"withdrawn {it.withdrawn}, waiting {it.waiting}")
+            counts = ", ".join(f"{state} {it[state]}" for state in vouchers.STATES)
+            print(f"{it['name']}: of {site.shown(it['sum'])}: {counts}")
         return
     print(names.csv_of(("code", "sum", "state", "account"), vouchers.codes_of(db, sheet)), end="")
 
 
-def codes_in(path):
-    """The codes of a CSV file, which is read as whoever gave the command."""
-    def one(cells):
-        if (code := codes.read(cells["code"])) is None:
-            raise ValueError("it has no code")
-        return code
-
-    return names.records_in(path, ["code"], one, ";,") if path else []
-
-
-def withdraw(db, book, words, found):
-    found = {*found, *(code for it in words.what for code in vouchers.named(db, it))}
-    if not found:
-        raise Failed("name a sheet, a code, or a file of codes")
+def withdraw(db, book, words):
+    found = {code for it in words.what for code in vouchers.named(db, it)}
     if len(found) > 1:
         cli.confirm(f"Withdraw {len(found)} codes for ever?", words.yes)
     new, repeat, spent, rest = vouchers.send(db, book, vouchers.end(db, found, "command"))
@@ -73,9 +60,8 @@ def withdraw(db, book, words, found):
 
 
 def main(words):
-    # Both are read as whoever gave the command.
-    is_sending = words.act == "withdraw"
-    book, found = (places.book(), codes_in(words.file)) if is_sending else (None, [])
+    # The key is read as whoever gave the command.
+    book = places.book() if words.act == "withdraw" else None
     places.become_user()
     with store.opened() as db:
         if words.act == "make":
@@ -85,5 +71,5 @@ def main(words):
         elif words.act == "print":
             print(paper.page("vouchers/sheet.html", pages.values(db, words.sheet)))
         else:
-            withdraw(db, book, words, found)
+            withdraw(db, book, words)
     return 0

@@ -217,7 +217,7 @@ def older(server, service):
     """An older site.db is put back: what was withdrawn since stays so, what was redeemed too."""
     name, found = sheet(service, 4)
     copy = f"{service.folder}/older.db"
-    with contextlib.closing(store.connected(f"{service.folder}/site/site.db")) as db:
+    with store.opened(f"{service.folder}/site/site.db") as db:
         db.execute("VACUUM INTO ?", (copy,))
     check("a code is redeemed", redeem(service, "alice", found[0]), 200)
     check("a sheet is withdrawn", service.run("voucher", "withdraw", "--yes", name)[1],

@@ -110,7 +110,7 @@ class Withdrawing(Sheet):
         older = f"{self.folder}/older"
         self.db.execute("VACUUM INTO ?", (older,))
         self.withdraw(self.sheet)
-        with contextlib.closing(store.connected(older)) as db:
+        with store.opened(older) as db:
             found = [vouchers.redeem(db, self.book, b"bo", it)[0] for it in self.codes]
         self.assertEqual(found, [desk.DIFFERS] * 4)
         self.assertEqual({account for account, _ in self.book.credits.values()},
@@ -125,19 +125,8 @@ class Withdrawing(Sheet):
         self.assertEqual(acts.again(self.db, self.book), 4)
         self.assertEqual(len(self.book.credits), 4)
 
-    def test_by_a_file_as_a_spreadsheet_writes_it(self):
-        path = f"{self.folder}/one.csv"
-        with open(path, "w", encoding="utf-8") as file:
-            file.write(f"\ufeffcode;sum\n{self.codes[0]};500\n")
-        self.assertIn("withdrawn: 1 codes", self.withdraw("--file", path))
-        with open(path, "w", encoding="utf-8") as file:
-            file.write(f"code\n{self.codes[1]}\nno-code\n")
-        with self.assertRaisesRegex(Failed, "record 3"):
-            self.withdraw("--file", path)
-        self.assertEqual(self.states().count("withdrawn"), 1)
-
     def test_a_wrong_name_withdraws_nothing(self):
-        for what in (["vouchers-1"], [self.sheet, "x"], []):
+        for what in (["vouchers-1"], [self.sheet, "x"]):
             self.assertRaises(Failed, self.withdraw, *what)
         self.assertEqual(self.states(), ["live"] * 4)
 

@@ -29,11 +29,6 @@ FROM code LEFT JOIN act AS given ON given.rowid = (
     AND coalesce(answer, '') NOT IN ('differs', 'limit')
     ORDER BY answer IS NULL, begun LIMIT 1)
 """
-Sheet = collections.namedtuple("Sheet", ("name", "sum", *STATES))
-
-
-def number_of(code):
-    return f"W-{code}"
 
 
 def make(db, count, total):
@@ -64,7 +59,7 @@ def redeem(db, book, account, text):
                      (code,)).fetchone()
     if row is None:
         return "no such code", 0
-    act = Act(number_of(code), names.for_desk(account), row["sum"], REDEEM, "")
+    act = Act(f"W-{code}", names.for_desk(account), row["sum"], REDEEM, "")
     return acts.do(db, book, act), row["sum"]
 
 
@@ -80,7 +75,7 @@ def named(db, what):
 
 def end(db, found, who):
     """Ends codes: from now on none of them is redeemed here. Returns what is to be sent."""
-    ended = [Act(number_of(it), NOBODY, 1, WITHDRAW, who, 0) for it in sorted(found)]
+    ended = [Act(f"W-{it}", NOBODY, 1, WITHDRAW, who, 0) for it in sorted(found)]
     with db:
         db.executemany(
             "INSERT INTO code VALUES (?, 0, '', ?) ON CONFLICT (code) DO UPDATE "
@@ -100,9 +95,8 @@ def send(db, book, ended):
 def sheets(db):
     """Each sheet with how many of its codes are in which state, the newest first."""
     counts = ", ".join(f"sum(state = '{it}') AS {it}" for it in STATES)
-    rows = db.execute(f"SELECT sheet, max(sum) AS sum, {counts} FROM ({CODES}) WHERE sheet <> '' "
-                      "GROUP BY sheet ORDER BY sheet DESC")
-    return [Sheet(*it) for it in rows]
+    return db.execute(f"SELECT sheet AS name, max(sum) AS sum, {counts} FROM ({CODES}) "
+                      "WHERE sheet <> '' GROUP BY sheet ORDER BY sheet DESC").fetchall()
 
 
 def codes_of(db, sheet):
