@@ -52,14 +52,6 @@ def has_plan():
     return accounts.plans().get(CLASS) == WANTED
 
 
-def request(number, account, total, secret):
-    """The signed report: a Stop of so many octets from the account."""
-    gigawords, octets = divmod(total, 1 << 32)
-    pairs = [(40, 2), (44, number.encode()), (1, account), (25, CLASS.encode()), (42, octets),
-             (52, gigawords)]
-    return signed(pairs, secret, os.urandom(1)[0])
-
-
 def signed(pairs, secret, identifier):
     """An Accounting-Request (RFC 2866, 3) of attributes: a number is one of four octets."""
     values = [(kind, it.to_bytes(4, "big") if isinstance(it, int) else it) for kind, it in pairs]
@@ -78,8 +70,11 @@ def is_reply(reply, sent, secret):
 
 
 def take(place, secret, account, total, number):
-    """Whether the book has answered that it took a sum from an account's octets."""
-    sent = request(number, account, total, secret)
+    """Whether the book has answered that it took a sum from an account's octets: a Stop of as many."""
+    gigawords, octets = divmod(total, 1 << 32)
+    pairs = [(40, 2), (44, number.encode()), (1, account), (25, CLASS.encode()), (42, octets),
+             (52, gigawords)]
+    sent = signed(pairs, secret, os.urandom(1)[0])
     with contextlib.suppress(OSError), socket.socket(socket.AF_INET, socket.SOCK_DGRAM) as sender:
         sender.bind((SOURCE, 0))
         sender.connect(place)

@@ -25,7 +25,6 @@ WARNINGS = {
     "secret-short": "a secret has less than 16 characters",
     "secret-shared": "two access servers have one secret",
     "mode-open": "others may read what is secret",
-    "log-odd": "the server's journal of the last hour has a line that needs a look",
     "clock-unset": "nothing keeps the clock",
     "device-unknown": "what is no client sends reports or logins: a device with a new address, or "
                       "a stranger",

@@ -71,12 +71,6 @@ def waiting(folder):
     return f"printf '{REPORT}' > {path}; chown -R freerad {KEPT}/{folder}", f"rm {path}"
 
 
-def printed(line):
-    """A line in the journal of the service, as root may write it: a real one takes a full disk."""
-    fields = f"MESSAGE={line}\\nOBJECT_SYSTEMD_UNIT=radacctd.service\\n"
-    return f"printf '{fields}' | logger --journald; journalctl --sync", FORGET
-
-
 def client(name, address, secret):
     return appended(f'\\n[[client]]\\nname = "{name}"\\naddress = "{address}"\\n'
                     f'secret = "{secret}"\\n')
@@ -122,7 +116,6 @@ BREAKS = {
     "plan-waits 2": appended('\\n[[plan]]\\nclass = "gold"\\nblock = 1\\nunit = 1\\n'),
     "plan-lost": kept(CONFIG, f"sed '/class = \"free\"/s/free/freed/' {CONFIG} > /root/new; cat "
                       f"/root/new > {CONFIG}"),
-    "log-odd": printed("db: Unavailable"),
     "disk-full": (FULL, f"umount {COPIES}"),
     # A server that goes on would write its counts anew before they are looked at.
     "clock-wrong": (f"kill -STOP {SERVER}; {MOMENT.format(2000000000)}",

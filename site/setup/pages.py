@@ -7,7 +7,6 @@ import re
 import shlex
 import socket
 import ssl
-import tempfile
 
 from radacctd_site.core import Failed, book, codes, files, looks, machine, money, places
 from radacctd_site.core.steps import Fault, File, Folder, Step, Unit
@@ -85,23 +84,20 @@ class Certificate(Step):
 
     def look(self):
         """One belongs to the other; and it is of this host, or somebody else has signed it."""
-        pem = files.text(CERTIFICATE)
-        one = machine.given(["openssl", "x509", "-noout", "-pubkey"], pem)
-        other = machine.given(["openssl", "pkey", "-pubout"], files.text(PRIVATE_KEY))
+        ssl.create_default_context().load_cert_chain(CERTIFICATE, PRIVATE_KEY)
         said = machine.given(["openssl", "x509", "-noout", "-subject", "-issuer", "-checkhost",
-                              self.host], pem)
+                              self.host], files.text(CERTIFICATE))
         subject, issuer, *_ = [it.partition("=")[2] for it in said.splitlines()]
-        return one == other and (subject != issuer or "does match" in said)
+        return subject != issuer or "does match" in said
 
     def do(self):
         # A subject has at most 64 characters, and browsers read the other name.
-        words = ("openssl", "req", "-x509", "-newkey", "rsa:2048", "-nodes", "-days", "3650",
-                 "-subj", f"/CN={self.host[:64]}", "-addext", f"subjectAltName=DNS:{self.host}")
-        with tempfile.TemporaryDirectory(dir="/run") as folder:
-            key, pem = (os.path.join(folder, it) for it in ("key", "pem"))
-            machine.given([*words, "-keyout", key, "-out", pem])
-            File(PRIVATE_KEY, files.text(key), 0o600).do()
-            File(CERTIFICATE, files.text(pem)).do()
+        said = machine.given(["openssl", "req", "-x509", "-newkey", "rsa:2048", "-nodes", "-days",
+                              "3650", "-subj", f"/CN={self.host[:64]}", "-addext",
+                              f"subjectAltName=DNS:{self.host}", "-keyout", "-", "-out", "-"])
+        key, begin, pem = said.partition("-----BEGIN CERTIFICATE")
+        File(PRIVATE_KEY, key, 0o600).do()
+        File(CERTIFICATE, begin + pem).do()
 
 
 def settings(old, answers):

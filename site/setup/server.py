@@ -180,8 +180,3 @@ def printed():
         elif name == "UnknownClient":
             yield Fault("device-unknown", f"{address} sends reports, and is no client",
                               f"add it to {places.CONFIG}, or shut it out")
-    for pattern, cure in ((r"cannot write", "see whether the folder is there, and the disk full"),
-                          (r"db: (?:Unavailable|Memory)", f"df -h {places.STATE}; dmesg; free -m"),
-                          (r"clock: .* is before", "set the clock; balances are right")):
-        if found := re.search(rf"(?m)^.*{pattern}.*$", said):
-            yield Fault("log-odd", f"radacctd printed: {found[0][:120]}", cure)

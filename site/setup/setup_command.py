@@ -158,5 +158,3 @@ def main(words):
     except (Failed, OSError) as why:
         raise Failed(f"{cli.reason(why)}\nWhat is done stays. Mend it, and give the same "
                      "again.") from None
-    finally:
-        os.close(lock)

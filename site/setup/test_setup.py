@@ -615,11 +615,10 @@ class Check(Folder):
         self.assertEqual(named - known, set())
 
     def test_what_the_journal_of_the_server_has(self):
-        said = "drop 1 BadAuthenticator from 10.0.0.7: x\ndrop 2 UnknownClient from 10.0.0.8: x\n" \
-               "db: Unavailable\n"
+        said = "drop 1 BadAuthenticator from 10.0.0.7: x\ndrop 2 UnknownClient from 10.0.0.8: x\n"
         with mock.patch.object(machine, "journal", lambda _: said):
             found = [it.name for it in server.printed()]
-        self.assertEqual(found, ["drop-secret", "device-unknown", "log-odd"])
+        self.assertEqual(found, ["drop-secret", "device-unknown"])
 
     def test_counts_that_are_missing_or_of_a_time_to_come(self):
         now = time.time()
