@@ -11,14 +11,12 @@ class Failed(Exception):
 
 
 @contextlib.contextmanager
-def told(kind, before, *faults, after=""):
-    """Raises a fault of a kind in the place of some, or ends by `fail`: what could not be done, and
-    the reason that they give.
-    """
+def told(kind, before, *faults):
+    """Raises a fault of a kind in the place of some: what could not be done, and why not."""
     try:
         yield
     except faults or OSError as why:
-        raise kind(f"{before}{getattr(why, 'strerror', None) or why}{after}") from None
+        raise kind(f"{before}{getattr(why, 'strerror', None) or why}") from None
 
 
 def moment(seconds):

@@ -25,10 +25,6 @@ ANSWERS = {
 }
 
 
-class WrongKey(Failed):
-    """Why a file has no key that may be used. It has no octet of the file."""
-
-
 def meaning(status, said):
     """What became of a voucher, by the status and the object that was answered."""
     for (number, member, value), found in ANSWERS.items():
@@ -76,13 +72,13 @@ def ask(where, method, path, key, body=None, patience=30, connect=None, most=1 <
 
 
 def secret_in(path, is_handed=False):
-    """The octets of a file that only its owner may read, unless systemd has handed it on."""
-    with told(WrongKey, f"cannot read {path}: "), open(path, "rb") as file:
+    """The octets of a file that only its owner may read, or that systemd has handed on."""
+    with told(Failed, f"cannot read {path}: "), open(path, "rb") as file:
         found = os.fstat(file.fileno())
         octets = file.read(65_536)
     is_open = stat.S_IMODE(found.st_mode) & 0o077 or found.st_uid not in (0, os.getuid())
     if is_open and not is_handed:
-        raise WrongKey(f"others may read {path}, or it is another user's: chmod 600 {path}")
+        raise Failed(f"others may read {path}, or it is another user's: chmod 600 {path}")
     return octets
 
 
@@ -90,7 +86,7 @@ def key_in(path, is_handed=False):
     """The key of a file, which stands alone on its first line."""
     line, _, rest = secret_in(path, is_handed).decode("ascii", "replace").partition("\n")
     if not TOKEN.fullmatch(line.strip()) or rest.strip():
-        raise WrongKey(f"{path} is to have one key on one line: 16 to 64 of A-Z a-z 0-9 and -")
+        raise Failed(f"{path} is to have one key on one line: 16 to 64 of A-Z a-z 0-9 and -")
     return line.strip()
 
 

@@ -15,6 +15,5 @@ PAGES = [
     Page("GET", "/site.css", "pages:style", ANYBODY),
 ]
 TABLES = acts.TABLES + people.TABLES
-PACKAGES = ["gunicorn", "libjs-bootstrap5", "python3-bottle", "python3-jinja2",
-            "python3-segno"]
+PACKAGES = ["gunicorn", "libjs-bootstrap5", "python3-bottle", "python3-jinja2", "python3-segno"]
 UNITS = ["radacctd-site.socket", "radacctd-minute.timer", "radacctd-night.timer"]

@@ -11,10 +11,6 @@ SETTINGS = "/etc/radacctd-web/settings.json"
 MOST_DECIMALS = 6
 
 
-class Wrong(Failed, ValueError):
-    """What is wrong with a file of the site's settings."""
-
-
 def sum_of(text):
     """The sum that a text says in units of the book, or None if it is none."""
     if not DIGITS.fullmatch(text) or not 1 <= int(text) <= LARGEST_SUM:
@@ -25,16 +21,16 @@ def sum_of(text):
 def settings_in(path=SETTINGS):
     """The settings of the pages, each of its kind."""
     with open(path, encoding="utf-8") as file:
-        with told(Wrong, f"{path} is no JSON: ", ValueError):
+        with told(Failed, f"{path} is no JSON: ", ValueError):
             found = json.load(file)
     if not isinstance(found, dict):
-        raise Wrong(f"{path} is no object of settings")
+        raise Failed(f"{path} is no object of settings")
     decimals = found.setdefault("decimals", 0)
     if type(decimals) is not int or not 0 <= decimals <= MOST_DECIMALS:
-        raise Wrong(f"{path}: decimals is a number from 0 to {MOST_DECIMALS}")
+        raise Failed(f"{path}: decimals is a number from 0 to {MOST_DECIMALS}")
     for name in ("name", "url", "currency"):
         if not isinstance(found.setdefault(name, ""), str):
-            raise Wrong(f"{path}: {name} is a text")
+            raise Failed(f"{path}: {name} is a text")
     return found
 
 
@@ -45,7 +41,7 @@ def of_site(path):
     except FileNotFoundError:
         return Money()
     except OSError as why:
-        raise Wrong(f"the site's money: {why}") from None
+        raise Failed(f"the site's money: {why}") from None
     return Money(found["decimals"], found["currency"])
 
 

@@ -22,10 +22,6 @@ PLAIN = frozenset(string.printable[:95].encode()) - frozenset(b'%"\\')
 BELOW_0, FORMULA = re.compile(r"-[0-9]+(?:\.[0-9]+)?"), re.compile(r"'*[=+\-@\t\r]")
 
 
-class WrongFile(Failed):
-    """Why nothing is taken of a file of a person's."""
-
-
 def octets_of(text):
     """The octets of a name as a file or a command line spells it."""
     return urllib.parse.unquote_to_bytes(text.encode("utf-8", "surrogateescape"))
@@ -99,11 +95,11 @@ def records_in(path, columns, one):
     """What `one` makes of each record of a CSV file of a person's, which it gets by column, or the
     ValueError that says why not. Nothing is taken of a file of which a part is wrong.
     """
-    with told(WrongFile, f"cannot read {path}: ", OSError, csv.Error):
+    with told(Failed, f"cannot read {path}: ", OSError, csv.Error):
         with open(path, encoding="utf-8-sig", errors="surrogateescape", newline="") as file:
             header, *rows = [it for it in csv.reader(file) if it] or [[]]
     if any(header.count(it) != 1 for it in columns):
-        raise WrongFile(f"the header of {path} is `{','.join(header)[:200]}`, and is to have "
+        raise Failed(f"the header of {path} is `{','.join(header)[:200]}`, and is to have "
                         f"{','.join(columns)}, each once")
     found, faults = [], []
     for number, row in enumerate(rows, 2):
@@ -114,5 +110,5 @@ def records_in(path, columns, one):
         except ValueError as why:
             faults.append(f"record {number}: {why}")
     if faults:
-        raise WrongFile("\n".join([f"{path} is not taken:", *faults[:20]]))
+        raise Failed("\n".join([f"{path} is not taken:", *faults[:20]]))
     return found

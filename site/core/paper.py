@@ -13,7 +13,5 @@ def qr(text):
 
 def page(template, values):
     """A page for a file, in English."""
-    with open(f"{web.TOP}/core/site.css", encoding="utf-8") as file:
-        style = file.read()
     return web.environment("en").get_template(template).render(
-        base="core/paper.html", language="en", house=web.house(), style=style, **values)
+        base="core/paper.html", language="en", house=web.house(), **values)

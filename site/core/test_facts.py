@@ -7,7 +7,7 @@ import tempfile
 import threading
 import unittest
 
-from radacctd_site.core import desk, money, names
+from radacctd_site.core import Failed, desk, money, names
 
 
 class Names(unittest.TestCase):
@@ -63,7 +63,7 @@ class Money(unittest.TestCase):
             for found in ([], {"decimals": 7}, {"decimals": True}, {"decimals": "2"}, {"name": 1}):
                 with open(path, "w", encoding="utf-8") as file:
                     json.dump(found, file)
-                self.assertRaises(ValueError, money.settings_in, path)
+                self.assertRaises(Failed, money.settings_in, path)
 
 
 class Desk(unittest.TestCase):
@@ -111,13 +111,13 @@ class Desk(unittest.TestCase):
     def test_keys(self):
         key = "cash-key-00000001"
         self.assertEqual(self.key(f" {key} \r\n\n".encode()), key)
-        self.assertRaisesRegex(desk.WrongKey, "one line", self.key, f"\n{key}\n".encode())
+        self.assertRaisesRegex(Failed, "one line", self.key, f"\n{key}\n".encode())
         for mode in (0o640, 0o604):
-            self.assertRaises(desk.WrongKey, self.key, key.encode(), mode)
+            self.assertRaises(Failed, self.key, key.encode(), mode)
 
     def test_a_wrong_key_is_not_printed(self):
         secret = "this-is-a-secret-of-somebody"
         for text in (f"{secret} {secret}", f"{secret}\n{secret}", "x" * 15, "x" * 65, ""):
-            with self.assertRaises(desk.WrongKey) as found:
+            with self.assertRaises(Failed) as found:
                 self.key(text.encode())
             self.assertNotIn("secret", str(found.exception).split("/", 1)[0])

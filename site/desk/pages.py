@@ -17,7 +17,8 @@ def sell(visit):
     """Asks whether account and sum are right, and then sells: once for a number."""
     account, text = visit.field("account"), visit.field("sum")
     total = visit.money().units(text)
-    why = wrong(visit, account, total)
+    why = visit.why_not(account) or (total is None and visit.text(
+        "The sum is wrong. Write it as %(sum)s.", sum=visit.money().plain(500))) or ""
     if why or visit.field("sure") == "no":
         return form(visit, why, 422 if why else 200, account=account, sum=text)
     number = visit.field("number")
@@ -28,12 +29,6 @@ def sell(visit):
                     account=account, sum=text)
     acts.do(visit.db, places.book(), sales.sale_of(number, account, total, visit.name))
     return web.lead(f"/desk/sale/{number}")
-
-
-def wrong(visit, account, total):
-    """What is wrong with a name or a sum, as a cashier reads it."""
-    return visit.why_not(account) or (total is None and visit.text(
-        "The sum is wrong. Write it as %(sum)s.", sum=visit.money().plain(500))) or ""
 
 
 def asked(visit, account, total, number):

@@ -69,11 +69,6 @@ def page(answers):
     return text
 
 
-def is_of(host, path):
-    said = machine.given(["openssl", "x509", "-noout", "-checkhost", host], files.linked_text(path))
-    return "does match" in said
-
-
 class Certificate(Step):
     """A certificate of the host, of which browsers warn. One that somebody else signed stays."""
 
@@ -152,7 +147,8 @@ def seen(answers):
     found = list(looks.certificate(path, "renew it, then: systemctl reload nginx"))
     yield from found
     yield from looks.open_to_others(answers.certificate_key or PRIVATE_KEY)
-    if not found and not is_of(answers.host, path):
+    if not found and "does match" not in machine.given(
+            ["openssl", "x509", "-noout", "-checkhost", answers.host], files.linked_text(path)):
         yield Fault("certificate-other", f"{path} is not of {answers.host}: browsers warn of it",
                     "name one of this host in the answers, or remove it; then: radacctl setup")
     if not found and serves_another(answers.host, path):

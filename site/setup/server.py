@@ -17,12 +17,6 @@ YEAR_2026 = 1_767_225_600
 SITE_KEY, BOOKS_SECRET = "/etc/radacctd-site.key", "/etc/radacctd-books.secret"
 
 
-def refuse_if_undated():
-    """What is made by a clock that was never set is old once it is: a certificate, say."""
-    if time.time() < YEAR_2026:
-        raise Failed(f"the clock says {time.strftime('%F %T')}: set it first (timedatectl)")
-
-
 def last_copy():
     """The path of the newest copy of the site, or None."""
     return max(glob.glob(f"{places.BACKUPS}/site-*"), default=None)

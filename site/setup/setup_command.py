@@ -18,6 +18,7 @@ status is 0 if nothing is wrong or to be done, 1 if something is, 2 for a wrong 
 
 import json
 import os
+import time
 
 from radacctd_site.core import Failed, cli, features, files, steps
 from radacctd_site.core.steps import File
@@ -115,7 +116,9 @@ def tries(wanted, config):
 
 def do(words, wanted):
     """Does each step that is not done, and shows that the site works."""
-    server.refuse_if_undated()
+    # What is made by a clock that was never set is old once it is: a certificate, say.
+    if time.time() < server.YEAR_2026:
+        raise Failed(f"the clock says {time.strftime('%F %T')}: set it first (timedatectl)")
     server.refuse_if_lost(words.new_book)
     config = Config(wanted)
     found = [it for it in steps_of(wanted, config) if not it.holds()]
