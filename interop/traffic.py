@@ -12,29 +12,8 @@ import time
 import served
 from served import free_port, signed
 
-SECRET, CASHIER = "testing-987", "cash-key-00000007"
 ACCOUNTS, SESSIONS, WINDOW = ["al", "bo", "cy"], 60, 16
 BLOCK, UNIT = 1_048_576, 10
-CONFIGURATION = f"""
-[[client]]
-name = "ap1"
-address = "127.0.0.1"
-secret = "{SECRET}"
-
-[[plan]]
-class = "gold"
-block = {BLOCK}
-unit = {UNIT}
-
-[[plan]]
-class = "default"
-block = 1000000
-unit = 5
-
-[[key]]
-token = "{CASHIER}"
-cashier = true
-"""
 
 
 def key_of(account):
@@ -56,7 +35,7 @@ class Server(served.Server):
 
     def __init__(self, folder):
         keys = "".join(f'[[key]]\ntoken = "{key_of(it)}"\naccount = "{it}"\n' for it in ACCOUNTS)
-        super().__init__(folder, CONFIGURATION, keys)
+        super().__init__(folder, served.PLANS + keys)
         subprocess.run(self.words("init"), check=True, stdout=subprocess.DEVNULL)
 
     def start(self, **how):
@@ -86,7 +65,7 @@ class Sender:
         gigawords, octets = divmod(total, 1 << 32)
         pairs = [(40, 3), (44, session.encode()), (1, model.owner[session].encode()),
                  (25, b"gold"), (42, octets), (52, gigawords)]
-        self.socket.send(signed(self.next, pairs, SECRET))
+        self.socket.send(signed(self.next, pairs))
         self.next = (self.next + 1) % 256
 
     def take(self, model, patience):
@@ -122,7 +101,7 @@ def credit(server, model, number):
     account, total = model.vouchers[number]
     body = json.dumps({"account": account, "sum": total, "voucher": number})
     try:
-        status, _ = server.ask("POST", "/topups", CASHIER, body)
+        status, _ = server.ask("POST", "/topups", served.CASHIER, body)
     except OSError:
         return
     if status in (200, 201):

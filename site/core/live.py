@@ -212,14 +212,16 @@ def program(folder):
     return found
 
 
-def over_program(test):
-    """The status of a live test, which gets the program, the pages' service, and a folder."""
+def over_program(*parts):
+    """The status of a live test: each part gets the program, the pages' service, and a folder."""
     with tempfile.TemporaryDirectory() as folder:
         server = program(f"{folder}/book")
         service = Service(f"{folder}/site", server.desk, KEY)
         service.of_book(server.folder, server.radius)
         try:
-            test(server, service.start(), folder)
+            service.start()
+            for part in parts:
+                part(server, service, folder)
         finally:
             service.kill()
             server.kill()

@@ -67,7 +67,7 @@ def sell(browser, account, number=None, total="5.00"):
     return number
 
 
-def by_page(server, service):
+def by_page(server, service, _):
     """One act at a time, also while the book is away."""
     anna, bert = cashier(service, "anna"), cashier(service, "bert")
     number = sell(anna, "alice")
@@ -176,7 +176,7 @@ class Chaos(live.Chaos):
         print(f"          {dict(self.counts)}; {len(had)} sold, {len(back)} taken back")
 
 
-def stepped(server, service):
+def stepped(server, service, _):
     """`radacctl sell` is killed before each call that writes, or finds a full disk there."""
     path, wrong, kills, numbers = f"{service.folder}/vouchers.csv", [], 0, set()
     for what in ("signal=SIGKILL", "error=ENOSPC"):
@@ -201,7 +201,7 @@ def stepped(server, service):
           (kills > 10, numbers - had, numbers - back), (True, set(), set()))
 
 
-def full_disk(server, folder):
+def full_disk(server, _, folder):
     """site.db on a disk that is full: nothing is sold, and nothing sent."""
     with live.small_disk(server, folder) as service:
         if service is None:
@@ -218,7 +218,7 @@ def full_disk(server, folder):
         check("with space again it is sold", browser.post("/desk/", **fields), 303)
 
 
-def older(server, service):
+def older(server, service, _):
     """An older book is put back: what it lacks is sent again."""
     server.kill()
     files = [it for it in os.listdir(server.folder) if it.startswith("book")]
@@ -243,13 +243,6 @@ def older(server, service):
     server.start()
 
 
-def test(server, service, folder):
-    by_page(server, service)
-    Chaos(server, service).judge()
-    stepped(server, service)
-    older(server, service)
-    full_disk(server, folder)
-
-
 if __name__ == "__main__":
-    sys.exit(live.over_program(test))
+    sys.exit(live.over_program(by_page, lambda server, service, _: Chaos(server, service).judge(),
+                               stepped, older, full_disk))

@@ -82,7 +82,7 @@ def redeem(service, account, code, address=None):
         return 0
 
 
-def by_page(server, service):
+def by_page(server, service, _):
     """One code at a time: new, again, somebody else's, none, while the book is away."""
     name, found = sheet(service, 3)
     statuses = [redeem(service, *it) for it in (
@@ -154,7 +154,7 @@ class Chaos(live.Chaos):
         print(f"          {dict(self.counts)}; given {sum(it[0] in GUESTS for it in found.values())}")
 
 
-def stepped(service, server):
+def stepped(server, service, _):
     """A command is killed before each call that writes, or finds a full disk there."""
     wrong, kills = [], 0
     for what in ("signal=SIGKILL", "error=ENOSPC"):
@@ -197,7 +197,7 @@ def sheets_of(service):
         "voucher", "list")[1])]
 
 
-def full_disk(server, folder):
+def full_disk(server, _, folder):
     """site.db on a disk that is full: nothing is redeemed, and nothing sent."""
     with live.small_disk(server, folder) as service:
         if service is None:
@@ -213,7 +213,7 @@ def full_disk(server, folder):
         check("with space again it is", redeem(service, "bob", found[1]), 200)
 
 
-def older(server, service):
+def older(server, service, _):
     """An older site.db is put back: what was withdrawn since stays so, what was redeemed too."""
     name, found = sheet(service, 4)
     copy = f"{service.folder}/older.db"
@@ -233,13 +233,6 @@ def older(server, service):
     check("and alice has hers", redeem(service, "alice", found[0]), 200)
 
 
-def test(server, service, folder):
-    by_page(server, service)
-    Chaos(server, service).judge()
-    stepped(service, server)
-    older(server, service)
-    full_disk(server, folder)
-
-
 if __name__ == "__main__":
-    sys.exit(live.over_program(test))
+    sys.exit(live.over_program(by_page, lambda server, service, _: Chaos(server, service).judge(),
+                               stepped, older, full_disk))
