@@ -12,7 +12,8 @@ class Program(unittest.TestCase):
     TOOL = os.path.join(ROOT, "bin", "radacctl")
 
     def run_it(self, *words, tool=None):
-        return subprocess.run([tool or self.TOOL, *words], capture_output=True, text=True, input="")
+        return subprocess.run([tool or self.TOOL, *words], capture_output=True, text=True, input="",
+                              env={**os.environ, "COLUMNS": "200"})
 
     def test_a_bad_command_line(self):
         for words in ((), ("no-such",), ("--no-such",), ("sell", "--no")):
@@ -21,7 +22,7 @@ class Program(unittest.TestCase):
     def test_the_manual_page_has_each_command_and_what_it_does(self):
         with open(os.path.join(ROOT, "man", "radacctl.8"), encoding="utf-8") as file:
             shown = re.findall(r"(?m)^\.It Cm (\w+)\n(.*)\.$", file.read())
-        said = re.findall(r"(?m)^  (\w+) +(.*)$", self.run_it("--help").stdout)
+        said = re.findall(r"(?m)^    (\w+) +(.*)$", self.run_it("--help").stdout)
         self.assertEqual(shown, said)
 
     def test_nothing_is_left_next_to_the_package(self):

@@ -8,15 +8,8 @@ import sys
 
 from radacctd_site.core import Failed, features
 
-HELP = """\
-usage: radacctl COMMAND [..]
-
-Works on a site of radacctd. `radacctl COMMAND --help` describes a command.
-
-{}
-
-The status is 0 if all was done, and 2 for a bad command line.
-"""
+ABOUT = "Works on a site of radacctd. `radacctl COMMAND --help` describes a command."
+STATUS = "The status is 0 if all was done, and 2 for a bad command line."
 
 
 def plain(text, also=""):
@@ -31,20 +24,13 @@ def reason(fault):
     return str(fault)
 
 
-def listed():
-    return "\n".join(f"  {name:9} {text}" for name, (text, _) in features.commands().items())
-
-
 def start(words):
     """The status of radacctl. Each command says why it did not do all."""
-    name = words[0] if words else ""
-    if name in ("--help", "-h", "help"):
-        print(HELP.format(listed()), end="")
-        return 0
-    if name not in features.commands():
-        what = f"there is no command {plain(name)}" if name else "give a command"
-        print(f"radacctl: {what}. These are all:\n{listed()}", file=sys.stderr)
-        return 2
+    top = argparse.ArgumentParser("radacctl", description=ABOUT, epilog=STATUS)
+    commands = top.add_subparsers(dest="name", metavar="COMMAND", required=True)
+    for name, (text, _) in features.commands().items():
+        commands.add_parser(name, help=text, add_help=False)
+    name = top.parse_args(words[:1]).name
     try:
         return main(name, words[1:])
     except BrokenPipeError:

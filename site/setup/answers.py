@@ -7,7 +7,7 @@ import secrets
 import stat
 import tomllib
 
-from radacctd_site.core import Failed, names
+from radacctd_site.core import Failed, names, people
 from radacctd_site.core.money import MOST_DECIMALS
 
 VENDORS = ("mikrotik", "unifi", "pfsense", "openwrt", "aruba", "cisco", "other")
@@ -105,10 +105,9 @@ PRINTABLE = rule("a text in quotation marks, and printable",
                  lambda it: isinstance(it, str) and it.isprintable())
 PATH = matches("a path from the root", "(/[A-Za-z0-9._/-]+)?")
 HOST = r"(?=.{1,253}$)[a-z0-9]([a-z0-9-]*[a-z0-9])?(\.[a-z0-9]([a-z0-9-]*[a-z0-9])?)+"
-PERSON = re.compile(r"[\w.@][\w.@-]{0,31}")
 PERSONS = rule("a list of names, each 1 to 32 letters, digits or . _ - @, and - is not first",
                lambda found: isinstance(found, list) and all(
-                   isinstance(it, str) and PERSON.fullmatch(it) for it in found))
+                   isinstance(it, str) and people.NAME.fullmatch(it) for it in found))
 OF_SQL = matches("1 to 253 letters, digits or . _ : -", "[A-Za-z0-9._:][A-Za-z0-9._:-]{0,252}")
 # The members of a file and of its tables: what each is if it is left out, and its rule. None: it
 # must be there.

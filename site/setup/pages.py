@@ -79,7 +79,8 @@ class Certificate(Step):
 
     def look(self):
         """One belongs to the other; and it is of this host, or somebody else has signed it."""
-        ssl.create_default_context().load_cert_chain(CERTIFICATE, PRIVATE_KEY)
+        # A key with a passphrase, which nginx would ask for, is none either.
+        ssl.create_default_context().load_cert_chain(CERTIFICATE, PRIVATE_KEY, "")
         said = machine.given(["openssl", "x509", "-noout", "-subject", "-issuer", "-checkhost",
                               self.host], files.text(CERTIFICATE))
         subject, issuer, *_ = [it.partition("=")[2] for it in said.splitlines()]
