@@ -8,9 +8,6 @@ import sys
 
 from radacctd_site.core import Failed, features
 
-ABOUT = "Works on a site of radacctd. `radacctl COMMAND --help` describes a command."
-STATUS = "The status is 0 if all was done, and 2 for a bad command line."
-
 
 def plain(text, also=""):
     """A text as a terminal may have it: other users chose names and lines that are in it."""
@@ -26,7 +23,9 @@ def reason(fault):
 
 def start(words):
     """The status of radacctl. Each command says why it did not do all."""
-    top = argparse.ArgumentParser("radacctl", description=ABOUT, epilog=STATUS)
+    top = argparse.ArgumentParser(
+        "radacctl", epilog="The status is 0 if all was done, and 2 for a bad command line.",
+        description="Works on a site of radacctd. `radacctl COMMAND --help` describes a command.")
     commands = top.add_subparsers(dest="name", metavar="COMMAND", required=True)
     for name, (text, _) in features.commands().items():
         commands.add_parser(name, help=text, add_help=False)

@@ -2,8 +2,6 @@
 
 import os
 import re
-import shlex
-import stat
 import time
 from ssl import cert_time_to_seconds as seconds_of
 
@@ -24,24 +22,10 @@ CURES = {"locked": "end who has it open: ls -l /proc/*/fd | grep {path}",
 
 def secrets(path, clients):
     """The faults of the secrets of a file's clients, name and secret of each."""
-    seen = {}
     for name, secret in clients:
         if len(secret) < 16:
             yield Fault("secret-short", f"{path}: that of {name} has {len(secret)} characters",
                         "write a longer one there and at the device: openssl rand -hex 16")
-        if secret in seen:
-            yield Fault("secret-shared", f"{path}: {seen[secret]} and {name} have one secret",
-                        "give each its own: openssl rand -hex 16")
-        seen[secret] = name
-
-
-def open_to_others(path):
-    """The fault of a file that all users may read. Of a link it names what that leads to: root
-    types the cure.
-    """
-    path = os.path.realpath(path)
-    if os.path.exists(path) and stat.S_IMODE(os.stat(path).st_mode) & 0o007:
-        yield Fault("mode-open", f"others may read {path}", f"chmod o= {shlex.quote(path)}")
 
 
 def certificate(path, cure):

@@ -73,11 +73,10 @@ OTHER = """\
 """
 # A line with the name of the pages is for a site that has them.
 TEXTS = {"mikrotik": MIKROTIK, "unifi": UNIFI, "pfsense": PFSENSE, "openwrt": OPENWRT}
-# What a comment begins with, where the text is typed; and the first line without FreeRADIUS.
-MARKS = {"mikrotik": "# ", "openwrt": "# "}
+# The first lines without FreeRADIUS: a comment, where the text is typed.
 ALONE = """\
-{mark}Only reports go to this machine, at port 1813: without FreeRADIUS it answers no login. Leave
-{mark}the server of logins as it is, whatever the lines below say of one.
+# Only reports go to this machine, at port 1813: without FreeRADIUS it answers no login. Leave
+# the server of logins as it is, whatever the lines below say of one.
 """
 
 
@@ -91,7 +90,7 @@ def text_of(device, answers, secret):
     lines = TEXTS.get(device["vendor"], OTHER).splitlines(True)
     text = "".join(it for it in lines if answers.host or "{host}" not in it)
     if not answers.has_front:
-        text = ALONE.format(mark=MARKS.get(device["vendor"], "")) + text
+        text = ALONE + text
     values = {**device, "secret": secret, "server": answers.server or "ADDRESS-OF-THIS-MACHINE",
               "host": answers.host, "interval": INTERVAL, "seconds": 60 * INTERVAL,
               "routeros": routeros(secret), "quoted": shlex.quote(secret),

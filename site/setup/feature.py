@@ -23,8 +23,6 @@ WARNINGS = {
     "desk-open": "radacctd's desk, which sells, listens beyond this machine",
     "sample-value": "a secret or key is the sample's, which is public",
     "secret-short": "a secret has less than 16 characters",
-    "secret-shared": "two access servers have one secret",
-    "mode-open": "others may read what is secret",
     "clock-unset": "nothing keeps the clock",
     "device-unknown": "what is no client sends reports or logins: a device with a new address, or "
                       "a stranger",

@@ -84,8 +84,6 @@ def row(attribute, value):
 
 RESTART, RELOAD = "systemctl restart radacctd-front", "systemctl reload nginx"
 FULL = f"mount -t tmpfs -o size=20m tmpfs {COPIES} && head -c 20800000 /dev/zero > {COPIES}/x"
-SHARED = f"grep -m 1 '^secret' {CONFIG} > /root/new; (echo '[[client]]'; echo 'name = \"near\"'; "
-SHARED += f"echo 'address = \"10.9.9.9\"'; cat /root/new) >> {CONFIG}"
 CLOCK = "printf '#!/bin/sh\\necho NTP=no\\necho NTPSynchronized=no\\n' > /root/clock; "
 COUNTS = "/var/lib/radacctd-counts/radacctd.prom"
 MOMENT = f"sed -i 's/^\\(radacctd_balances_time_seconds\\) .*/\\1 {{}}/' {COUNTS}"
@@ -170,9 +168,8 @@ BREAKS = {
                             "-key /etc/ssl/private/radacctd.key -out /etc/ssl/radacctd.pem"),
     "sample-value": appended('\\n[[key]]\\ntoken = "al-key-0000000001"\\naccount = "al"\\n'),
     "secret-short": client("near", "10.9.9.9", "short"),
-    "secret-shared": kept(CONFIG, SHARED),
-    "mode-open": ("chmod 644 /etc/ssl/private/radacctd.key",
-                  "chmod 600 /etc/ssl/private/radacctd.key"),
+    "differs 10": ("chmod 644 /etc/ssl/private/radacctd.key",
+                   "chmod 600 /etc/ssl/private/radacctd.key"),
     "clock-unset": (f"{CLOCK} cp -a /usr/bin/timedatectl /root/kept; cat /root/clock > "
                     "/usr/bin/timedatectl", "cp -a /root/kept /usr/bin/timedatectl"),
     "copy-old": (f"touch -d '2 days ago' {COPIES}/site-*", f"touch {COPIES}/site-*"),

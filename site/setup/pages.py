@@ -147,7 +147,6 @@ def seen(answers):
     path = answers.certificate or CERTIFICATE
     found = list(looks.certificate(path, "renew it, then: systemctl reload nginx"))
     yield from found
-    yield from looks.open_to_others(answers.certificate_key or PRIVATE_KEY)
     if not found and "does match" not in machine.given(
             ["openssl", "x509", "-noout", "-checkhost", answers.host], files.linked_text(path)):
         yield Fault("certificate-other", f"{path} is not of {answers.host}: browsers warn of it",
