@@ -23,7 +23,7 @@ LIKE = 20
 
 
 def opened(path):
-    """A file that radacctd writes: no link is followed, and a pipe in its place is not waited for."""
+    """A file that radacctd writes. No link is followed, and a pipe there is not waited for."""
     return open(path, encoding="ascii", newline="", opener=lambda it, flags: os.open(
         it, flags | os.O_NOFOLLOW | os.O_NONBLOCK))
 

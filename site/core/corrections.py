@@ -25,7 +25,7 @@ TRIES, PATIENCE = 2, 3
 
 
 def is_use(session):
-    """Whether a session is a guest's own: no correction, and no line of what was carried forward."""
+    """Whether a session is a guest's own: no correction, and nothing that was carried forward."""
     return session["client"] != CLIENT and not session["client"].startswith("(")
 
 
@@ -70,7 +70,7 @@ def is_reply(reply, sent, secret):
 
 
 def take(place, secret, account, total, number):
-    """Whether the book has answered that it took a sum from an account's octets: a Stop of as many."""
+    """Whether the book has answered to a Stop of as many octets as an account is to lose."""
     gigawords, octets = divmod(total, 1 << 32)
     pairs = [(40, 2), (44, number.encode()), (1, account), (25, CLASS.encode()), (42, octets),
              (52, gigawords)]

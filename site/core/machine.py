@@ -104,8 +104,8 @@ def as_user(user):
 
 
 def text_of(user, path):
-    """The text of a file in a folder of a user's, which that user reads; "" if there is none. No link
-    is followed, and a pipe in its place is not waited for.
+    """The text of a file in a folder of a user's, which that user reads; "" if there is none. No
+    link is followed, and a pipe in its place is not waited for.
     """
     done = ran([*as_user(user), "dd", f"if={path}", "iflag=nonblock,nofollow", "bs=64K",
                 "count=1024", "status=none"])

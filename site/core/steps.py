@@ -243,17 +243,17 @@ def folder_of(name, path):
 
 
 def users():
-    """The users and groups that the package says to systemd. The pages' user reads the balances, and
-    nothing else of radacctd's.
+    """The users and groups that the package says to systemd. The pages' user reads the balances,
+    and nothing else of radacctd's.
     """
     def are_there():
         groups = machine.given(["id", "-Gn", places.USER]).split()
         return {*groups} == {places.USER, places.READERS} and not machine.run(
             "id", places.SERVER_USER)[0]
 
-    return Command(f"make radacctd's users, and let {places.USER} be in no further group", are_there,
-                   "sh", "-c", 'systemd-sysusers && usermod -G "$0" "$1"', places.READERS,
-                   places.USER)
+    return Command(f"make radacctd's users, and let {places.USER} be in no further group",
+                   are_there, "sh", "-c", 'systemd-sysusers && usermod -G "$0" "$1"',
+                   places.READERS, places.USER)
 
 
 # After a power cut in the middle of an earlier installation, too. Another run of apt is waited for,

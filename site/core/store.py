@@ -15,8 +15,8 @@ PATIENCE = 5
 
 
 def opened(path=None):
-    """A connection, closed at its end. `with` it is a transaction; sqlite3.Error says that nothing of
-    it was written.
+    """A connection, closed at its end. `with` it is a transaction; sqlite3.Error says that nothing
+    of it was written.
     """
     os.umask(0o077)
     db = sqlite3.connect(path or places.DATABASE, timeout=PATIENCE, isolation_level="IMMEDIATE")

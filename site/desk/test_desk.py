@@ -430,9 +430,9 @@ class Command(Desk):
             self.run_it("balance", "muller")
 
     def test_once_a_month(self):
-        """By the lines of the page. Two names of one number are not both credited, and it is said."""
+        """By the lines of the page. Of two names of one number one is credited, and it is said."""
         with open(f"{places.TOP}/desk/README.md", encoding="utf-8") as file:
-            lines = re.search(r"(?ms)^    (\(echo .*?\)) \| radacctl sell --unpaid$", file.read())[1]
+            lines = re.search(r"(?ms)^    (\(echo .*?\)) \| radacctl sell", file.read())[1]
         with open(f"{self.folder}/students", "w", encoding="utf-8") as file:
             file.write("al\nbo@a.example\n")
         made = lambda: subprocess.check_output(["sh", "-c", lines], cwd=self.folder, text=True)

@@ -1,7 +1,7 @@
 """Looks at a site of radacctd from another machine: python3 outside.py HOST [LOCAL-ADDRESS].
 
-A port of RADIUS answers nothing to a machine that is no client: the site's list of faults then names
-its address, unless a firewall is between.
+A port of RADIUS answers nothing to a machine that is no client: the site's list of faults then
+names its address, unless a firewall is between.
 """
 
 import socket

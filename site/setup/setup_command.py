@@ -104,7 +104,7 @@ def answers_of(words):
         return of_answers.read(words.file)
     if text := files.text(server.ANSWERS):
         return of_answers.Answers(json.loads(text)["answers"])
-    raise of_answers.Wrong("no set-up made this site: give a file of answers, as --sample prints one")
+    raise of_answers.Wrong("no set-up made this site: give a file of answers (--sample prints one)")
 
 
 def tries(wanted, config):
