@@ -22,9 +22,9 @@ PLANS = {
 UNSTAMPED, STAMP_SECRET, LONGEST = b"free", b"stamp-secret-of-tests", 253
 SAID = set(b"ABCDEFGHIJKLMNOPQRSTUVWXYZabcdefghijklmnopqrstuvwxyz0123456789._-")
 START, STOP, INTERIM = 1, 2, 3
-# A report of a wrong form is never answered. If radacctd is away, it is kept without the attribute
-# that is wrong, and charged by the others.
-FINE, WRONG = "fine", "wrong"
+# A report of a wrong form is never answered, and not charged if its octets are wrong. If radacctd is
+# away, it is kept without another attribute that is wrong, and charged.
+FINE, WRONG, OCTETS = "fine", "wrong", (42, 43, 52, 53)
 # By how many seconds the moment of a session may be another one in the book.
 EDGE = 5
 # By how many seconds radacctd's own clock is set off at most, and a minute more.
@@ -229,11 +229,8 @@ class Model:
 def row_faults(session, row):
     """Of a session, and of its row in the book, which may be missing."""
     least, most = session.least(), session.most()
-    if session.kind == WRONG:
-        if least is not None:
-            yield "answered, and of a wrong form", session
-        elif row is not None:
-            yield from kept_faults(session, row)
+    if session.kind == WRONG and (least is not None or row and session.form[0][0] in OCTETS):
+        yield "of a wrong form, and answered or charged", session
     elif row is None:
         if least is not None:
             yield "answered, and not in the book", session
@@ -242,15 +239,6 @@ def row_faults(session, row):
     else:
         yield from charge_faults(session, row, least, most)
         yield from moment_faults(session, row)
-
-
-def kept_faults(session, row):
-    """Of a report of a wrong form that was kept: it is charged by what was right of it."""
-    got = int(row["input"]), int(row["output"])
-    said = {(one, other) for it in session.reports for one in (0, it.input)
-            for other in (0, it.output)}
-    if got not in said or row["charged"] != session.price(session.counted(*got)):
-        yield f"charged {row['charged']} for {got}, and of a wrong form", session
 
 
 def charge_faults(session, row, least, most):

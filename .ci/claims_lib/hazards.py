@@ -15,7 +15,7 @@ KEPT = {
     "docs/CODEC.md": ("no call tests them for you",),
     "docs/A-LARGE-SITE.md": (
         "A report of a session that was carried forward opens it anew, and charges it again in whole",
-        "as long as the clocks of the server and of FreeRADIUS were right all the while",
+        "as long as the server's clock was right all the while",
         "It does not notice a clock that is up to 8 days ahead",
         "If an open session that `--silent` took reports again, credit what it was charged before",
         "An old report without it is taken for one of now",

@@ -193,46 +193,14 @@ class Lab:
             run = lambda *it: subprocess.run(
                 ["openssl", *it], check=True, cwd=made + ".new", capture_output=True
             )
-            key = ("-newkey", "rsa:2048", "-nodes")
-            run(
-                "req",
-                "-x509",
-                *key,
-                "-keyout",
-                "ca.key",
-                "-out",
-                "ca.pem",
-                "-subj",
-                "/CN=site",
-                "-days",
-                "365",
-            )
+            key = ("-newkey", "rsa:2048", "-nodes", "-keyout")
+            days = ("-days", "365", "-out")
+            run("req", "-x509", *key, "ca.key", *days, "ca.pem", "-subj", "/CN=site")
+            by = ("-CA", "ca.pem", "-CAkey", "ca.key", "-CAcreateserial")
             for name in ("server", "al", "stranger", ""):
-                run(
-                    "req",
-                    *key,
-                    "-keyout",
-                    name + ".key",
-                    "-out",
-                    name + ".csr",
-                    "-subj",
-                    f"/CN={name}" if name else "/",
-                )
-                run(
-                    "x509",
-                    "-req",
-                    "-in",
-                    name + ".csr",
-                    "-CA",
-                    "ca.pem",
-                    "-CAkey",
-                    "ca.key",
-                    "-CAcreateserial",
-                    "-out",
-                    name + ".pem",
-                    "-days",
-                    "365",
-                )
+                request, subject = name + ".csr", f"/CN={name}" if name else "/"
+                run("req", *key, name + ".key", "-out", request, "-subj", subject)
+                run("x509", "-req", "-in", request, *by, *days, name + ".pem")
             os.rename(made + ".new", made)
         for name in ("ca.pem", "server.pem", "server.key"):
             shutil.copy(os.path.join(made, name), certs)
@@ -394,43 +362,15 @@ class Lab:
                 count += file.read().count(b"\n\tAcct-Status-Type = ")
         return count
 
-    def radclient(self, *pairs, source_port=None):
-        text = ", ".join(pairs)
-        it = subprocess.run(
-            [
-                "radclient",
-                "-x",
-                "-t",
-                "5",
-                "-r",
-                "1",
-                f"127.0.0.1:{self.logins}",
-                "auth",
-                "testing123",
-            ],
-            input=text,
-            capture_output=True,
-            text=True,
-        )
-        return (
-            "accept"
-            if "Received Access-Accept" in it.stdout
-            else "reject"
-            if "Received Access-Reject" in it.stdout
-            else "silence"
-        )
+    def radclient(self, *pairs):
+        words = ["radclient", "-x", "-t", "5", "-r", "1", f"127.0.0.1:{self.logins}", "auth"]
+        how = {"input": ", ".join(pairs), "capture_output": True, "text": True}
+        said = subprocess.run([*words, "testing123"], **how).stdout
+        answers = (it for it in ("accept", "reject") if f"Received Access-{it.title()}" in said)
+        return next(answers, "silence")
 
-    def eap(
-        self,
-        method,
-        identity,
-        outer=None,
-        password="right",
-        phase2=None,
-        cert=None,
-        inner_cert=None,
-        again=0,
-    ):
+    def eap(self, method, identity, outer=None, password="right", phase2=None, cert=None,
+            inner_cert=None, again=0):
         lines = [
             "network={",
             " key_mgmt=WPA-EAP",
@@ -458,28 +398,9 @@ class Lab:
         path = self.path("eap.conf")
         with open(path, "w", encoding="utf-8") as file:
             file.write("\n".join(lines) + "\n}\n")
+        words = ["eapol_test", "-c", path, "-a", "127.0.0.1", "-p", str(self.logins), "-s"]
+        words += ["testing123", "-t", "8", "-M", "02:00:00:00:00:07", "-i", "127.0.0.1", "-r"]
         it = subprocess.run(
-            [
-                "eapol_test",
-                "-c",
-                path,
-                "-a",
-                "127.0.0.1",
-                "-p",
-                str(self.logins),
-                "-s",
-                "testing123",
-                "-t",
-                "8",
-                "-M",
-                "02:00:00:00:00:07",
-                "-i",
-                "127.0.0.1",
-                "-r",
-                str(again),
-            ],
-            capture_output=True,
-            text=True,
-            errors="replace",
+            [*words, str(again)], capture_output=True, text=True, errors="replace"
         )
         return it.stdout

@@ -1,5 +1,7 @@
 """Reports: answered means in the book. Attacks on a front over the program or its stand-in. Needs root."""
 import os
+import pathlib
+import re
 import signal
 import subprocess
 import threading
@@ -273,27 +275,66 @@ class Exact(OneLab):
                     self.assertLess(abs(now - int(row["last"])), 60)
 
     def test_a_wrong_size_is_not_taken(self):
-        self.assertFalse(
-            self.lab.report(
-                [(STATUS, STOP), (ID, "w"), (USER, "al"), (42, b"abc"), (NAS_NAME, "ap")], wait=1
-            )
-        )
+        it, wrong = self.lab, [(STATUS, STOP), (ID, "w"), (USER, "al"), (42, b"abc"), (43, 7)]
+        self.assertFalse(it.report(wrong, wait=1))
+        it.stop_book()
+        self.quick(wrong, 1)
+        self.assertTrue(waited(lambda: it.waiting() == 1))
+        it.start_book()
+        self.assertTrue(waited(lambda: it.waiting("aside") == 1))
         self.assertEqual(self.rows(), {})
 
-    def test_a_clock_that_was_set_back(self):
+    def test_names_without_a_stamp(self):
         it = self.lab
-        ahead = int(time.time()) + 5000
-        path = os.path.join(it.kept, "waits", "2026010100")
-        with open(os.path.join(it.kept, "new"), "w", encoding="ascii") as file:
-            file.write(
-                'Mon Nov 30 06:00:00 2026\n\tAcct-Status-Type = Stop\n\tAcct-Session-Id = 0x7331\n\tUser-Name = "al"\n'
-                f"\tAcct-Input-Octets = 1000\n\tNAS-IP-Address = 10.0.0.1\n\tTimestamp = {ahead}\n\n"
-            )
-        os.chmod(os.path.join(it.kept, "new"), 0o600)
-        os.chown(os.path.join(it.kept, "new"), *(os.stat(it.kept).st_uid,) * 2)
-        os.rename(os.path.join(it.kept, "new"), path)
-        self.assertTrue(waited(lambda: "s1" in self.rows()))
-        self.assertLess(abs(time.time() - int(self.rows()["s1"]["last"])), 30)
+        names = (b"%{User-Name}", b'x%{a}\\b"c\n', b"\xff%{", b"0x616c", b"\\n", b"a\0b", b"a" * 253)
+        it.stop_book()
+        for n, name in enumerate(names):
+            self.quick(report(f"n{n}", user=name), 1)
+        self.assertTrue(waited(lambda: it.waiting() == len(names)))
+        it.start_book()
+        self.assertTrue(waited(lambda: len(self.rows()) == len(names)))
+        found = [self.rows()[f"n{n}"]["account"] for n in range(len(names))]
+        self.assertEqual([urllib.parse.unquote_to_bytes(account) for account in found], list(names))
+
+    def kept(self, reports, change):
+        """Has reports kept, and changes the text of them while nobody runs."""
+        it = self.lab
+        it.stop_book()
+        for pairs in reports:
+            self.quick(pairs, 1)
+        self.assertTrue(waited(lambda: it.waiting() == len(reports)))
+        it.stop_front()
+        paths = list(pathlib.Path(it.kept, "waits").iterdir())
+        text = b"".join(path.read_bytes() for path in paths)
+        for path in paths:
+            os.truncate(path, 0)
+        paths[0].write_bytes(change(text))
+        it.start_book()
+        it.start_front()
+
+    def test_a_clock_that_was_set_back(self):
+        """The clock of FreeRADIUS was 100 days ahead: no delay is shorter than the device's."""
+        sent = time.time()
+        ahead = lambda it: b"Timestamp = %d" % (int(it[1]) + 100 * 86400)
+        self.kept(
+            [report("old", more=[(41, 100000)])], lambda it: re.sub(rb"Timestamp = (\d+)", ahead, it)
+        )
+        self.assertTrue(waited(lambda: "old" in self.rows()))
+        self.assertLess(abs(sent - 100000 - int(self.rows()["old"]["last"])), 5)
+
+    def test_a_record_that_was_cut(self):
+        """The rest of it is another one's: neither is charged, and a person may see both."""
+
+        def cut_two(text):
+            *records, _ = text.split(b"\n\n")
+            for n, end in ((0, 8), (2, 0)):
+                records[n : n + 1] = [records[n][: records[n].index(b"\tAcct-Input") + end]]
+            return b"%b%b\n\n%b%b\n\n%b\n\n%b\n\n" % tuple(records)
+
+        self.kept([report(f"s{n}", user=f"u{n}") for n in range(6)], cut_two)
+        self.assertTrue(waited(lambda: len(self.rows()) == 2 and self.lab.waiting() == 0))
+        self.assertEqual(self.lab.waiting("lost"), 4)
+        self.assertEqual({row["total"] for row in self.rows().values()}, {"1000"})
 
     def test_an_outage_moves_no_moment(self):
         it = self.lab

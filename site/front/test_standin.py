@@ -335,8 +335,9 @@ def main():
         opened.bind((job.bind, int(job.radius_port)))
         threading.Thread(target=hear, args=(opened, book), daemon=True).start()
         Desk.book = book
+        desk = Server((job.bind, int(job.desk_port)), Desk)
         print("serving", flush=True)
-        Server((job.bind, int(job.desk_port)), Desk).serve_forever()
+        desk.serve_forever()
     elif job.what == "balances":
         print("account,balance")
         for (it,) in book.rows("SELECT account FROM session UNION SELECT account FROM voucher"):

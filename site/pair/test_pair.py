@@ -80,8 +80,8 @@ class Pair(unittest.TestCase):
             (USER, "al"),
             (42, 1000 + n),
             (NAS_NAME, f"ap-{n % 20}"),
-            (CLASS, self.given),
         ]
+        pairs += [(CLASS, self.given)] if n % 20 else []
         machines = self.machines if n % 2 else self.machines[::-1]
         self.answered.append(any(it.report(pairs, tries=3, wait=1.2) for it in machines))
 
@@ -119,7 +119,7 @@ class Pair(unittest.TestCase):
             flush=True,
         )
         self.assertEqual(sum(self.answered), 600)
-        self.assertEqual([it.balances()["al"] for it in self.machines], [10**7 - 6000] * 2)
+        self.assertEqual([it.balances()["al"] for it in self.machines], [10**7 - 5700] * 2)
         self.a_lost_disk(one, two)
 
     def a_lost_disk(self, one, two):
@@ -146,7 +146,7 @@ class Pair(unittest.TestCase):
         self.assertTrue(
             lab.waited(lambda: self.equal(700), 120), [len(it.of_each()) for it in self.machines]
         )
-        self.assertEqual([it.balances()["al"] for it in self.machines], [10**7 - 7000] * 2)
+        self.assertEqual([it.balances()["al"] for it in self.machines], [10**7 - 6650] * 2)
         print("its disk lost, a new one: books equal", flush=True)
 
 
