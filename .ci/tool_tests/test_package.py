@@ -16,6 +16,10 @@ SHUT_IN = """NoNewPrivileges SystemCallArchitectures SystemCallErrorNumber Memor
     CapabilityBoundingSet RestrictAddressFamilies SystemCallFilter""".split()
 NO_RIGHTS = "PrivateUsers ProtectProc ProcSubset".split()
 ROOTS = {"radacctd-copy.service", "radacctd-front.service", "radacctd-night.service"}
+# FreeRADIUS speaks to whatever its modules need. Who leaves the groups that Debian gives freerad
+# cannot have users of its own.
+LEFT_OUT = {"radacctd-front.service": "RestrictAddressFamilies",
+            "radacctd-cut.service": "PrivateUsers"}
 
 
 def text(*names):
@@ -63,11 +67,10 @@ class Units(unittest.TestCase):
 
     def test_each_service_is_shut_in(self):
         for name, found in self.services().items():
-            wanted = SHUT_IN + ([] if name in ROOTS else NO_RIGHTS)
-            if name == "radacctd-front.service":
-                # FreeRADIUS speaks to whatever its modules need.
-                wanted = [it for it in wanted if it != "RestrictAddressFamilies"]
-            self.assertEqual(set(wanted) - {it for it, _ in found}, set(), name)
+            wanted = {*SHUT_IN, *([] if name in ROOTS else NO_RIGHTS)} - {LEFT_OUT.get(name)}
+            self.assertEqual(wanted - {it for it, _ in found}, set(), name)
+            is_freerads = ("User", "freerad") in found
+            self.assertEqual(" --clear-groups " in dict(found)["ExecStart"], is_freerads, name)
 
     def test_a_list_of_calls_begins_with_those_of_a_service(self):
         """Else systemd takes it for a list of what is forbidden, and allows the rest."""
@@ -95,7 +98,3 @@ class Files(unittest.TestCase):
             for name in folders + files:
                 path = os.path.join(folder, name)
                 self.assertFalse(os.path.islink(path), os.path.relpath(path, ROOT))
-
-
-if __name__ == "__main__":
-    unittest.main()

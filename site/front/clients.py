@@ -1,18 +1,17 @@
-"""The access servers: FreeRADIUS' clients.conf, and whom cut.toml asks to end sessions.
+"""The access servers: FreeRADIUS' clients.conf.
 
-Both files are the site's: a set-up adds what they lack, and changes nothing that is there.
+The file is the site's: a set-up adds what it lacks, and changes nothing that is there.
 """
 
 import contextlib
 import ipaddress
 import os
-import re
-import tomllib
 
 from radacctd_site.core import Failed, files
+from radacctd_site.front.cut import BLOCK, value
 
+HERE = os.path.dirname(os.path.realpath(__file__))
 RADDB = "/etc/radacctd-front"
-SECRETS = f"{RADDB}/secrets"
 # The account of the try at the end of a set-up, and where its login and its reports come from.
 TEST_NAME, TEST_ADDRESS = "radacctd-setup", "127.0.0.8"
 TEST = {"name": TEST_NAME, "address": TEST_ADDRESS, "vendor": "mikrotik"}
@@ -20,33 +19,19 @@ TEST = {"name": TEST_NAME, "address": TEST_ADDRESS, "vendor": "mikrotik"}
 QUOTAS = {"mikrotik": "mikrotik", "pfsense": "pfsense"}
 CUT_PORTS = {"openwrt": 3799, "mikrotik": 3799, "unifi": 3799, "pfsense": 3799, "aruba": 3799,
              "cisco": 1700}
-CLIENTS = """\
-# The access servers. `radacctl setup` wrote this file, and only adds to it. Each has its own secret.
-# quota: which attributes a quota has: mikrotik, chillispot, pfsense, or none. login = yes: it gives
-# an Acct-Session-Id a second time after a restart. pays = no: who was proved is let in, and pays
-# nothing (switches, a free network).
-"""
 CLIENT = """
 client {name} {{
 	ipaddr = {address}
 	secret = {secret}
-	quota = {quota}, login = {login}, pays = yes
+	quota = {quota}, login = {login}, pays = yes, cut = {cut}
 }}
 """
-BLOCK = re.compile(r'(?ms)^[ \t]*client\s+"?([^\s"{]+)"?\s*\{(.*?)^[ \t]*\}')
-CUT = """
-[[access_server]]
-client = "front/{device}"
-address = "{address}:{port}"
-secret_file = "{secret_file}"
-"""
 
 
-def value(text, name):
-    """The value of a name in FreeRADIUS' files, without its marks, or ""."""
-    found = re.search(rf"""(?m)^[^#\n]*?(?<!\w){name}[ \t]*=[ \t]*("[^"\n]*"|'[^'\n]*'|[^\s,]+)""",
-                      text)
-    return found[1].strip("\"'") if found else ""
+def own(path):
+    """A file as this version has it."""
+    with open(f"{HERE}/{path}", encoding="utf-8") as file:
+        return file.read()
 
 
 def known():
@@ -56,7 +41,7 @@ def known():
 
 def written(old, answers):
     """clients.conf with those that it lacks. Of one that is there nothing is changed."""
-    text = CLIENTS if old is None else old
+    text = own("raddb/clients.conf") if old is None else old
     there = dict(BLOCK.findall(text))
     named = {value(block, "ipaddr"): name for name, block in there.items()}
     for it in [*answers.access_servers, TEST]:
@@ -69,8 +54,10 @@ def written(old, answers):
         if ":" in it["address"] and not os.path.exists(f"{RADDB}/site.conf"):
             raise Failed(f"{it['name']} has an IPv6 address: first write a `listen` for it "
                                f"into {RADDB}/site.conf")
+        is_cut = it is not TEST and "/" not in it["address"]
         more = {"secret": answers.secret(f"client-{it['name']}"),
                 "quota": QUOTAS.get(it["vendor"], "none"),
+                "cut": CUT_PORTS.get(it["vendor"], "no") if is_cut else "no",
                 # A router that begins its ids anew at a boot.
                 "login": "yes" if it["vendor"] == "mikrotik" else "no"}
         text += CLIENT.format(**it, **more)
@@ -91,29 +78,3 @@ def secret_of(name):
     if not found:
         raise Failed(f"{RADDB}/clients.conf has no secret of {name}")
     return found
-
-
-def asked_to_cut(answers):
-    """Those that can be asked to end a session."""
-    return [it for it in answers.access_servers
-            if it["vendor"] in CUT_PORTS and "/" not in it["address"]]
-
-
-def devices_of(it):
-    """By which names radacctd may know an access server: its NAS-Identifier, or its address."""
-    packed = ipaddress.ip_address(it["address"]).packed
-    encoded = "".join(chr(at) if re.match(r"[\w.-]", chr(at), re.ASCII) else f"%{at:02X}"
-                      for at in packed)
-    return f"n{it['name']}", ("v" if len(packed) > 4 else "a") + encoded
-
-
-def cut_toml(text, asked):
-    """cut.toml with the access servers that it lacks."""
-    there = {it.get("client") for it in tomllib.loads(text).get("access_server", [])}
-    for it in asked:
-        address = f"[{it['address']}]" if ":" in it["address"] else it["address"]
-        for device in devices_of(it):
-            if f"front/{device}" not in there:
-                text += CUT.format(device=device, address=address, port=CUT_PORTS[it["vendor"]],
-                                   secret_file=f"{SECRETS}/{it['name']}")
-    return text

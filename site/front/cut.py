@@ -1,26 +1,51 @@
-"""Ends open sessions of accounts below 0: `cut.py FILE` asks the desk once a minute, and radclient
-sends each one's access server a Disconnect-Request. It keeps nothing. Each hour FreeRADIUS gets to
-send again what went aside."""
+"""Ends open sessions of accounts below 0: `cut.py FOLDER` asks the desk once a minute, and radclient
+sends each one's access server a Disconnect-Request, if it has `cut` in clients.conf. It keeps
+nothing. Each hour FreeRADIUS gets to send again what went aside."""
+import concurrent.futures
+import contextlib
+import ipaddress
 import json
 import os
+import pathlib
+import re
 import subprocess
 import sys
 import time
-import tomllib
 import urllib.parse
 import urllib.request
 
 MINUTE, HOUR, LONGEST = 60, 3600, 40
 USER_NAME, STATION, SESSION, EVENT_TIME = 1, 31, 44, 55
+# A client of FreeRADIUS: its name, and what is in it.
+BLOCK = re.compile(r'(?ms)^[ \t]*client\s+"?([^\s"{]+)"?\s*\{(.*?)^[ \t]*\}')
 
 
-def overruns(site):
+def value(text, name):
+    """The value of a name in FreeRADIUS' files, without its marks, or ""."""
+    found = re.search(rf"""(?m)^[^#\n]*?(?<!\w){name}[ \t]*=[ \t]*("[^"\n]*"|'[^'\n]*'|[^\s,]+)""",
+                      text)
+    return found[1].strip("\"'") if found else ""
+
+
+def servers(text):
+    """Who can be asked to end a session, of clients.conf: by NAS-Identifier, and by address."""
+    found = {}
+    for name, block in BLOCK.findall(text):
+        with contextlib.suppress(ValueError):
+            address = ipaddress.ip_address(value(block, "ip(?:v[46])?addr"))
+            it = {key: value(block, key) for key in ("secret", "user_name")}
+            host = f"[{address}]" if address.version > 4 else address
+            it["address"] = f"{host}:{int(value(block, 'cut'))}"
+            found |= {(value(block, "nas") or name).encode(): it, address.packed: it}
+    return found
+
+
+def overruns(settings):
     """The open sessions of accounts below 0, asked for in parts."""
-    with open(site["key_file"], encoding="ascii") as file:
-        key = file.read().strip()
+    desk, key = value(settings, "desk"), value(settings, "key")
     path = "/overruns/sessions"
     while path:
-        asked = urllib.request.Request(f"http://{site['desk']}{path}", headers={"Desk-Key": key})
+        asked = urllib.request.Request(f"http://{desk}{path}", headers={"Desk-Key": key})
         with urllib.request.urlopen(asked, timeout=10) as answer:
             part = json.load(answer)
         yield from part["sessions"]
@@ -31,7 +56,7 @@ def request(session, server, now):
     """A Disconnect-Request as radclient reads it: each attribute by its number and in hex, so that
     no text of a report is read as anything else."""
     names = {SESSION: "id", STATION: "calling"}
-    if server.get("user_name"):
+    if server["user_name"] == "yes":
         names[USER_NAME] = "account"
     pairs = [(kind, urllib.parse.unquote_to_bytes(session[it])) for kind, it in names.items()]
     pairs.append((EVENT_TIME, now.to_bytes(4, "big")))
@@ -39,31 +64,25 @@ def request(session, server, now):
 
 
 def ask(server, requests):
-    """Starts a radclient that sends them. It reads the secret from a file, not from its arguments."""
-    words = ["radclient", "-q", "-S", server["secret_file"], "-p", "20", "-r", "2", "-t", "2"]
-    run = subprocess.Popen(
-        [*words, server["address"], "disconnect"], stdin=subprocess.PIPE, stdout=subprocess.DEVNULL
-    )
-    run.stdin.write("\n".join(requests).encode())
-    run.stdin.close()
-    return run
+    """Has radclient send them. It reads the secret from memory, not from its arguments."""
+    with open(os.memfd_create("secret"), "w", encoding="utf-8") as secret:
+        print(server["secret"], file=secret, flush=True)
+        words = ["radclient", "-q", "-S", f"/proc/self/fd/{secret.fileno()}", "-p", "20", "-r", "2",
+                 "-t", "2", server["address"], "disconnect"]
+        with contextlib.suppress(subprocess.TimeoutExpired):
+            subprocess.run(words, input="\n".join(requests).encode(), stdout=subprocess.DEVNULL,
+                           pass_fds=[secret.fileno()], timeout=LONGEST, check=False)
 
 
-def cut(site, now):
+def cut(settings, clients, now):
     """One round. A session that was not heard of lately has no device any more."""
-    servers, asked = {it["client"]: it for it in site.get("access_server", [])}, {}
-    for it in overruns(site):
-        name = "/".join(filter(None, (it["client"], it["device"])))
-        if name in servers and now - it["last"] <= site.get("heard", 900):
-            asked.setdefault(name, []).append(request(it, servers[name], now))
-    runs = [ask(servers[name], requests) for name, requests in asked.items()]
-    end = time.monotonic() + LONGEST
-    for run in runs:
-        try:
-            run.wait(max(0, end - time.monotonic()))
-        except subprocess.TimeoutExpired:
-            run.kill()
-            run.wait()
+    known, heard, asked = servers(clients), int(value(settings, "heard")), {}
+    for it in overruns(settings):
+        device = urllib.parse.unquote_to_bytes(it["device"][1:])
+        if device in known and now - it["last"] <= heard:
+            asked.setdefault(device, []).append(request(it, known[device], now))
+    with concurrent.futures.ThreadPoolExecutor(max(1, len(asked))) as pool:
+        list(pool.map(ask, map(known.get, asked), asked.values()))
     return sum(map(len, asked.values()))
 
 
@@ -76,16 +95,16 @@ def send_again(kept, now):
             print(f"{name}: reports that radacctd did not take are sent again", flush=True)
 
 
-def main(path):
+def main(folder):
     said = {}
     while True:
         began = time.monotonic()
-        with open(path, "rb") as file:
-            site = tomllib.load(file)
-        for work, of in ((cut, site), (send_again, site["kept"])):
+        files = (pathlib.Path(folder, it) for it in ("settings.conf", "clients.conf"))
+        settings, clients = (it.read_text(encoding="utf-8") for it in files)
+        for work, of in ((cut, (settings, clients)), (send_again, (value(settings, "kept"),))):
             fault = ""
             try:
-                work(of, int(time.time()))
+                work(*of, int(time.time()))
             except (OSError, ValueError, KeyError) as why:
                 fault = f"not done: {why!r}"
             # One that lasts is said once.

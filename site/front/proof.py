@@ -64,12 +64,11 @@ class Proof:
 
     def asked(self):
         """What radacctd's desk says to FreeRADIUS: the octets that the account may use, a stamp."""
-        key = clients.value(self.settings, "key")
-        path, said = f"/logins/{TEST_NAME}/default", []
+        key, said = clients.value(self.settings, "key"), []
 
         def is_answered():
             try:
-                said[:] = desk.ask(self.desk, "GET", path, key)
+                said[:] = desk.ask(self.desk, "GET", f"/logins/{TEST_NAME}/default", key)
             except OSError as why:
                 said[:] = 0, str(why)
             return said[0] in (200, 402)
@@ -77,10 +76,8 @@ class Proof:
         if not machine.until(is_answered, PATIENCE):
             raise Failed(f"radacctd's desk does not answer the key of {RADDB}/settings.conf: "
                          f"{said[0] or said[1]}. See systemctl status radacctd")
-        if said[0] == 402:
-            return 0, None
         found = json.loads(said[1])
-        return found["octets"], found["stamp"]
+        return found.get("octets", 0), found.get("stamp")
 
     def expect(self, octets, what):
         found = self.asked()[0]
@@ -105,16 +102,15 @@ class Proof:
                 raise Failed(f"a login got no {wanted}: {' '.join(kept) or 'no answer'}. See "
                              "journalctl -u radacctd-front")
             said = self.client("logins", "auth", lines)
-        return next(iter(re.findall(r"\tClass = (0x[0-9a-f]+)", said)), None)
+        found = re.search(r"\tClass = 0x([0-9a-f]+)", said)
+        return found and bytes.fromhex(found[1]).decode()
 
     def report(self, stamp, octets):
         """Sends a Stop of so many octets, which must be answered: then the book has it."""
         name = {"out": "Output"}.get(self.plan["count"], "Input")
-        logged_in = []
-        if stamp:
-            logged_in = [f"Class = {stamp}" if stamp.startswith("0x") else f'Class = "{stamp}"']
         said = self.client("reports", "acct", [
-            "Acct-Status-Type = Stop", f'User-Name = "{TEST_NAME}"', *logged_in,
+            "Acct-Status-Type = Stop", f'User-Name = "{TEST_NAME}"',
+            *([f'Class = "{stamp}"'] if stamp else []),
             f'Acct-Session-Id = "{secrets.token_hex(8)}"',
             f"Acct-{name}-Octets = {octets % 2**32}", f"Acct-{name}-Gigawords = {octets >> 32}"])
         if "Received Accounting-Response" not in said:

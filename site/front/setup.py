@@ -1,7 +1,7 @@
-"""The front's part of the set-up: FreeRADIUS' folder, its certificate, the cut-off, the units.
+"""The front's part of the set-up: FreeRADIUS' folder, its certificate, the units.
 
-Files of ours are whole: a set-up writes them anew. settings.conf, clients.conf, users.conf and
-cut.toml are the site's: it adds what they lack, and secrets that are radacctd's.
+Files of ours are whole: a set-up writes them anew. settings.conf, clients.conf and users.conf are
+the site's: it adds what they lack, and secrets that are radacctd's.
 """
 
 import os
@@ -11,9 +11,8 @@ import tempfile
 from radacctd_site.core import Failed, corrections, files as on_disk, machine, places
 from radacctd_site.core.steps import Command, File, Folder, Step, Unit, is_fresh
 from radacctd_site.front import clients, proof, users
-from radacctd_site.front.clients import RADDB, SECRETS
+from radacctd_site.front.clients import HERE, RADDB, own
 
-HERE = os.path.dirname(os.path.realpath(__file__))
 KEPT, CERTS = "/var/lib/radacctd-front", f"{RADDB}/certs"
 # What the site's authority signs with. Whoever has a certificate of it may log in by it.
 AUTHORITY = f"{places.NOTES}/authority"
@@ -31,9 +30,8 @@ BURST, KERNEL = 4_194_304, "/proc/sys/net/core/rmem_max"
 
 
 def packages(answers):
-    if not answers.has_front:
-        return []
-    return OF_DEBIAN + (OF_POSTGRESQL if answers.sql else [])
+    found = OF_DEBIAN + (OF_POSTGRESQL if answers.sql else [])
+    return found if answers.has_front else []
 
 
 def files(answers, config):
@@ -59,7 +57,6 @@ def files(answers, config):
     yield Folder(AUTHORITY, 0o700)
     yield Step("make the site's own authority, and a certificate of it for FreeRADIUS",
                has_certificates, lambda: make_certificates(answers))
-    yield from cut_off(answers, config)
     yield File("/etc/sysctl.d/radacctd-front.conf", f"net.core.rmem_max = {BURST}\n", 0o644)
 
 
@@ -72,7 +69,7 @@ def units(answers):
     yield Command("stop Debian's own FreeRADIUS", lambda: not is_debians_on(), "systemctl",
                   "disable", "--now", "freeradius.service")
     yield Unit(UNITS[0], [f"{RADDB}/*", f"{CERTS}/*"], test())
-    yield Unit(UNITS[1], [f"{RADDB}/cut.toml", f"{RADDB}/desk.key", f"{SECRETS}/*"])
+    yield Unit(UNITS[1])
     yield Command("restart the pages' service with the key of codes", is_handed, "systemctl",
                   "restart", PAGES)
 
@@ -86,12 +83,6 @@ def tries(answers, config):
     """What shows at the end that it works."""
     if answers.has_front:
         yield from proof.Proof(answers, config).tries()
-
-
-def own(path):
-    """A file as this version has it."""
-    with open(f"{HERE}/{path}", encoding="utf-8") as file:
-        return file.read()
 
 
 def whole():
@@ -175,16 +166,6 @@ def make_certificates(answers):
                                              made("server.key"))]
         for it, text in zip(CERTIFICATES, texts):
             of_group(f"certs/{it}", text).do()
-
-
-def cut_off(answers, config):
-    """Who ends sessions, with each secret in a file of its own."""
-    yield of_group("desk.key", config.keys["logins"] + "\n")
-    yield Folder(SECRETS, 0o750, group=places.RADIUS_USER)
-    asked = clients.asked_to_cut(answers)
-    for name in (it["name"] for it in asked):
-        yield of_group(f"secrets/{name}", lambda _, name=name: clients.secret_of(name) + "\n")
-    yield of_group("cut.toml", lambda old: clients.cut_toml(old or own("cut.toml"), asked))
 
 
 def keeps_burst():

@@ -10,7 +10,7 @@ MOST = 900
 # What other features have for FreeRADIUS.
 FOLDERS = ("front", "packages/raddb", "pair")
 SET_UP = r"feature|setup|clients|users|proof|looks"
-LEFT_OUT = re.compile(rf"(test_.*|live|{SET_UP})\.py$|/users\.sql$|\.md$|\.pyc$")
+LEFT_OUT = re.compile(rf"(test_.*|live|{SET_UP})\.py$|\.md$|\.pyc$")
 
 
 class Bound(unittest.TestCase):

@@ -1,5 +1,6 @@
 """Cut-off: who is overdrawn is disconnected, by nobody's leave but the desk's. Over the program or its stand-in."""
 import hashlib
+import os
 import socket
 import subprocess
 import threading
@@ -19,7 +20,7 @@ class AccessServer(threading.Thread):
         super().__init__(daemon=True)
         self.socket = socket.socket(socket.AF_INET, socket.SOCK_DGRAM)
         self.socket.bind(("127.0.0.1", 0))
-        self.address = "127.0.0.1:%d" % self.socket.getsockname()[1]
+        self.port = self.socket.getsockname()[1]
         self.answers, self.asked, self.seen = answers, [], []
         self.start()
 
@@ -49,14 +50,11 @@ class Cut(unittest.TestCase):
             self.lab.user(name, "fast")
             self.lab.sell(name, 100)
         self.lab.user("bo", Cleartext_Password="right")
-        for name, text in (("key", "desk-key-logins-0001\n"), ("coa", "coa-secret-1\n")):
-            with open(self.lab.path(name), "w", encoding="ascii") as file:
-                file.write(text)
 
     def tearDown(self):
         self.lab.end()
 
-    def open(self, session, octets, name="al", device="ap-1", status=START):
+    def open(self, session, octets, name="al", device="one", status=START):
         given = radius.first(self.lab.login(name), CLASS) or self.given
         self.given = given
         pairs = [
@@ -70,45 +68,36 @@ class Cut(unittest.TestCase):
         ]
         self.assertTrue(self.lab.report(pairs))
 
-    def site(self, **servers):
-        clients = {it["client"] for it in self.lab.sessions()}
-        by_name = {it: next(c for c in clients if c.endswith(it)) for it in servers}
-        return {
-            "desk": f"127.0.0.1:{self.lab.desk}",
-            "key_file": self.lab.path("key"),
-            "kept": self.lab.kept,
-            "access_server": [
-                {
-                    "client": by_name[name],
-                    "address": it.address,
-                    "secret_file": self.lab.path("coa"),
-                    "user_name": name == "ap-2",
-                }
-                for name, it in servers.items()
-            ],
-        }
+    def cut(self, now, **servers):
+        """A round, by the settings of the front and these clients."""
+        text = "".join(
+            f"client {name} {{\n\tipaddr = 127.0.0.1\n\tsecret = 'coa-secret-1'\n"
+            f"\tcut = {it.port}, nas = {name}, user_name = {'yes' if name == 'two' else 'no'}\n}}\n"
+            for name, it in servers.items()
+        )
+        with open(os.path.join(self.lab.raddb, "settings.conf"), encoding="utf-8") as file:
+            return cut.cut(file.read(), text, now)
 
     def test_who_is_overdrawn(self):
         one, two = AccessServer(), AccessServer()
         for session in ("s1", "s2"):
             self.open(session, 100)
         self.open("s3", 100, "bo")
-        self.open("s4", 100, "bo", "ap-2")
-        now, site = int(time.time()), None
-        site = self.site(**{"ap-1": one, "ap-2": two})
-        self.assertEqual(cut.cut(site, now), 0)
+        self.open("s4", 100, "bo", "two")
+        now, both = int(time.time()), {"one": one, "two": two}
+        self.assertEqual(self.cut(now, **both), 0)
         self.open("s1", 20 * lab.MEBIBYTE, status=3)
-        self.assertEqual(cut.cut(site, now), 2)
+        self.assertEqual(self.cut(now, **both), 2)
         self.assertEqual(sorted(it[ID] for it in one.asked), [b"s1", b"s2"])
         self.assertEqual({it[STATION] for it in one.asked}, {b"02-s1", b"02-s2"})
         self.assertEqual(two.asked, [])
         self.assertNotIn(b"coa-secret-1", b"".join(one.seen))
         self.assertIn(b"disconnect", b"".join(one.seen))
-        self.assertEqual(cut.cut(site, now + 2000), 0)
+        self.assertEqual(self.cut(now + 2000, **both), 0)
         self.lab.sell("al", 1000)
-        self.assertEqual(cut.cut(site, now), 0)
-        self.open("s4", 20 * lab.MEBIBYTE, "bo", "ap-2", status=3)
-        self.assertEqual(cut.cut(site, now), 2)
+        self.assertEqual(self.cut(now, **both), 0)
+        self.open("s4", 20 * lab.MEBIBYTE, "bo", "two", status=3)
+        self.assertEqual(self.cut(now, **both), 2)
         self.assertEqual([it.get(USER) for it in two.asked], [b"bo"])
         self.assertEqual(len(one.asked), 3)
 
@@ -118,7 +107,7 @@ class Cut(unittest.TestCase):
             self.open(f"s{n}", 100)
         self.open("s0", 20 * lab.MEBIBYTE, status=3)
         start = time.time()
-        self.assertEqual(cut.cut(self.site(**{"ap-1": one}), int(start)), 300)
+        self.assertEqual(self.cut(int(start), one=one), 300)
         print("300 sessions took", round(time.time() - start, 1), "s", flush=True)
         self.assertEqual(len({it[ID] for it in one.asked}), 300)
 
@@ -133,12 +122,12 @@ class Cut(unittest.TestCase):
                 (STATUS, START),
                 (ID, name),
                 (USER, "al"),
-                (NAS_NAME, "ap-1"),
+                (NAS_NAME, "one"),
                 (CLASS, self.given),
                 (STATION, name),
             ]
             self.assertTrue(self.lab.report(pairs), n)
-        self.assertEqual(cut.cut(self.site(**{"ap-1": one}), int(time.time())), 6)
+        self.assertEqual(self.cut(int(time.time()), one=one), 6)
         self.assertEqual(
             {it[ID] for it in one.asked},
             {b"s1", b'x"\nUser-Name = "bo', b"0x616c", b"%{User-Name}\\", b"\0", b"a,b = c"},
@@ -149,18 +138,17 @@ class Cut(unittest.TestCase):
         one, two = AccessServer(answers=False), AccessServer()
         for n in range(30):
             self.open(f"s{n}", 100)
-        self.open("t", 20 * lab.MEBIBYTE, device="ap-2")
+        self.open("t", 20 * lab.MEBIBYTE, device="two")
         start = time.time()
-        self.assertEqual(cut.cut(self.site(**{"ap-1": one, "ap-2": two}), int(start)), 31)
+        self.assertEqual(self.cut(int(start), one=one, two=two), 31)
         self.assertLess(time.time() - start, cut.LONGEST + 5)
         self.assertEqual(len(two.asked), 1)
 
     def test_the_desk_is_away(self):
         self.open("s1", 100)
-        site = self.site(**{"ap-1": AccessServer()})
         self.lab.stop_book()
         with self.assertRaises(OSError):
-            cut.cut(site, int(time.time()))
+            self.cut(int(time.time()), one=AccessServer())
 
 
 if __name__ == "__main__":

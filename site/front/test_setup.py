@@ -4,13 +4,12 @@ import os
 import socket
 import tempfile
 import time
-import tomllib
 import unittest
 from unittest import mock
 
 from radacctd_site.core import Failed, files, looks as of_core, machine
 from radacctd_site.core.test_client import answers as wanted
-from radacctd_site.front import clients, looks, setup, users
+from radacctd_site.front import clients, cut, looks, setup, users
 
 LOBBY = {"name": "lobby", "address": "10.0.0.1", "vendor": "mikrotik"}
 
@@ -59,17 +58,17 @@ class Clients(unittest.TestCase):
 class CutOff(unittest.TestCase):
     def test_who_can_be_asked(self):
         """By its name or its address; no network, and nobody without a port."""
-        asked = clients.asked_to_cut(wanted(
+        text = clients.written(None, wanted(
             LOBBY, {"name": "attic", "address": "10.0.2.0/24", "vendor": "unifi"},
             {"name": "old", "address": "10.0.0.9", "vendor": "other"},
-            {"name": "six", "address": "fd00::1", "vendor": "cisco"}))
-        text = clients.cut_toml("# ours\n", asked)
-        self.assertEqual(clients.cut_toml(text, asked), text)
-        found = {it["client"]: it["address"] for it in tomllib.loads(text)["access_server"]}
-        self.assertEqual(found, {
-            "front/nlobby": "10.0.0.1:3799", "front/a%0A%00%00%01": "10.0.0.1:3799",
-            "front/nsix": "[fd00::1]:1700",
-            "front/v%FD%00%00%00%00%00%00%00%00%00%00%00%00%00%00%01": "[fd00::1]:1700"})
+            {"name": "hall", "address": "10.0.0.3", "vendor": "cisco"}))
+        by_hand = '\nclient six {\n\tipv6addr = fd00::1\n\tcut = 3799, nas = "roof 1"\n}\n'
+        found = cut.servers(text + by_hand)
+        self.assertEqual({name: it["address"] for name, it in found.items()}, {
+            b"lobby": "10.0.0.1:3799", b"\n\0\0\1": "10.0.0.1:3799", b"hall": "10.0.0.3:1700",
+            b"\n\0\0\3": "10.0.0.3:1700", b"roof 1": "[fd00::1]:3799",
+            b"\xfd" + bytes(14) + b"\1": "[fd00::1]:3799"})
+        self.assertRegex(found[b"lobby"]["secret"], "^[0-9a-f]{32}$")
 
 
 class Settings(unittest.TestCase):

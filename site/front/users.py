@@ -5,11 +5,11 @@ import re
 import secrets
 
 from radacctd_site.core import Failed, files, machine, places, steps
-from radacctd_site.core.steps import Command, Step
+from radacctd_site.core.steps import Step
 from radacctd_site.front import clients
 
-HERE = os.path.dirname(os.path.realpath(__file__))
 FILE = f"{places.USUAL}/users.db"
+SCHEMA = "/etc/freeradius/3.0/mods-config/sql/main/sqlite/schema.sql"
 POSTGRESQL = """\
 # Where users and groups are: FreeRADIUS' schema. `radacctl setup` wrote this file.
 driver = "rlm_sql_postgresql", dialect = "postgresql"
@@ -24,20 +24,20 @@ def of(answers, of_group):
         yield of_group("users.conf", lambda old: old or POSTGRESQL.format(
             password=password(answers.sql["password_file"]), **answers.sql))
         return
-    with open(f"{HERE}/raddb/users.conf", encoding="utf-8") as file:
-        sample = file.read()
+    sample = clients.own("raddb/users.conf")
     yield of_group("users.conf", lambda old: sample if old is None else old)
-    yield Command(f"make {FILE}, with FreeRADIUS' tables of users", lambda: rows("radusergroup")
-                  is not None, *machine.as_user(places.USER), "sh", "-c",
-                  'umask 027; sqlite3 -bail "$1" ".read $2"', "sh", FILE, f"{HERE}/users.sql")
-    yield Step(f"let {places.RADIUS_USER} read {FILE}", lambda: steps.rights_of(os.lstat(FILE)) == (
-        *steps.ids(places.USER, places.RADIUS_USER), 0o640), give)
+    yield Step(f"make {FILE}, with FreeRADIUS' tables of users",
+               lambda: rows("radusergroup") is not None, make_tables)
+    rights = lambda: (*steps.ids(places.USER, places.RADIUS_USER), 0o640)
+    yield Step(f"let {places.RADIUS_USER} read {FILE}",
+               lambda: steps.rights_of(os.lstat(FILE)) == rights(),
+               lambda: files.give(FILE, places.USER, *rights()[1:]))
     yield Step(f"make the login {clients.TEST_NAME}, which has no money but for a try",
                lambda: bool(rows("radcheck")), make_login)
 
 
-def give():
-    files.give(FILE, places.USER, steps.ids(places.USER, places.RADIUS_USER)[1], 0o640)
+def make_tables():
+    sql(f"BEGIN;\n{machine.text_of(places.RADIUS_USER, SCHEMA)}\nCOMMIT;\n")
 
 
 def password(path):

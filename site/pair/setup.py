@@ -77,29 +77,24 @@ def text(answers, secrets):
     """The answers of the other machine, once all secrets are there."""
     found = {name: value for name, value in answers.found.items() if value != {}}
     # Only a person knows where access servers reach the other one.
-    found |= {"certificate": "", "certificate_key": "", "server": ""}
-    lists = {"plan": found.pop("plan"), "access_server": found.pop("access_server")}
-    tables = {"pair": {"own": answers.pair["other"], "other": answers.pair["own"], "second": True},
-              "sql": found.pop("sql", None), "secrets": secrets}
+    found |= {"certificate": "", "certificate_key": "", "server": "", "secrets": secrets,
+              "pair": {"own": answers.pair["other"], "other": answers.pair["own"], "second": True}}
     lines = ["# The other machine of the pair: radacctl setup --yes with this file. It has",
              "# all secrets: once that is done, remove the first machine's, and the table",
              "# [secrets] of the other one's, which is for upgrades.",
              f"# Copy {places.NOTES}/authority there before, so that devices trust both."]
-    if tables["sql"]:
-        path = tables["sql"]["password_file"]
+    if "sql" in found:
+        path = found["sql"]["password_file"]
         lines.append(f"# The password of [sql] is not in it: copy {path}, too.")
-    lines += [f"{name} = {shown(it)}" for name, it in found.items() if name not in tables]
-    for name, rows in lists.items():
-        lines += [line for row in rows for line in ("", f"[[{name}]]", *members(row))]
-    for name, row in tables.items():
-        lines += ["", f"[{name}]", *members(row)] if row else []
+    tables = [(f"[{it}]", row) for it in ("plan", "access_server") for row in found.pop(it)]
+    tables += [(it, found.pop(it)) for it in ("pair", "sql", "secrets") if it in found]
+    lines += members(found)
+    for name, row in tables:
+        lines += ["", f"[{name}]", *members(row)]
     return "\n".join(lines) + "\n"
 
 
 def members(row):
-    return [f"{json.dumps(name)} = {shown(value)}" for name, value in row.items()]
-
-
-def shown(value):
-    """A value as TOML has it: texts, numbers, truths, lists and no table."""
-    return json.dumps(value, ensure_ascii=False)
+    """Members of a table as TOML has them: texts, numbers, truths, lists and no table."""
+    return [f"{json.dumps(name)} = {json.dumps(it, ensure_ascii=False)}"
+            for name, it in row.items()]
