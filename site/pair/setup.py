@@ -65,8 +65,7 @@ class Once(File):
         return hashlib.sha256(self.wanted(None)).hexdigest() + "\n"
 
     def look(self):
-        is_written = on_disk.text(WRITTEN) == self.mark()
-        return is_written and (super().look() or not os.path.lexists(self.path))
+        return on_disk.text(WRITTEN) == self.mark()
 
     def do(self):
         super().do()
