@@ -256,6 +256,13 @@ class Lab:
         )
         assert self.book.stdout.readline().startswith(b"serving")
 
+    def slow_down(self, milliseconds):
+        """From now on each sync of the book takes so long."""
+        words = ["strace", "-f", "-q", "-e", "trace=fsync,fdatasync", "-o", "/dev/null", "-e"]
+        words += [f"inject=fsync,fdatasync:delay_exit={milliseconds}ms", "-p", str(self.book.pid)]
+        self.others.append(subprocess.Popen(words, stdout=subprocess.PIPE))
+        time.sleep(1)
+
     def stop_book(self, how=signal.SIGKILL):
         self.book.send_signal(how)
         self.book.wait()

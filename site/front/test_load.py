@@ -118,53 +118,62 @@ class Desks(unittest.TestCase):
 
 
 class Outage(unittest.TestCase):
-    """Devices that give up after a second, in an outage."""
+    """Devices that give up after a second: what was answered is in the book, and all is charged."""
 
     def device(self, n, given, seconds):
-        time.sleep(random.random() * (seconds - 6))
+        time.sleep(random.random() * seconds)
         source = f"127.0.{1 + n // 200}.{1 + n % 200}"
-        packet = radius.report_packet(
-            [
-                (STATUS, STOP),
-                (ID, f"s{n}"),
-                (USER, "al"),
-                (42, 1000 + n),
-                (CLASS, given),
-                (NAS_NAME, f"ap-{n % 50}"),
-            ]
-        )
-        answered = radius.asked(self.lab.reports, packet, source, tries=3, wait=0.3).code == 5
-        self.answered.append(answered)
+        pairs = [(STATUS, STOP), (ID, f"s{n}"), (USER, "al"), (42, 1000 + n), (CLASS, given)]
+        packet = radius.report_packet([*pairs, (NAS_NAME, f"ap-{n % 50}")])
+        if radius.asked(self.lab.reports, packet, source, tries=3, wait=0.3).code == 5:
+            self.answered.add(f"s{n}")
 
-    def test_300_devices_in_a_minute(self):
-        self.answered, seconds = [], 60
+    def devices(self, count, seconds, wrong):
+        """So many in so many seconds, while something is wrong with the book."""
+        it, self.answered = self.lab, set()
+        it.group("fast", Class="gold")
+        it.user("al", "fast")
+        it.sell("al", 10**6)
+        given = radius.first(it.login(), CLASS)
+        wrong()
+        threads = [
+            threading.Thread(target=self.device, args=(n, given, seconds)) for n in range(count)
+        ]
+        [thread.start() for thread in threads]
+        [thread.join() for thread in threads]
+
+    def charged(self, count, longest):
+        """How long it takes until each is charged, once."""
+        it, start = self.lab, time.time()
+        self.assertTrue(lab.waited(lambda: len(it.sessions()) == count, longest))
+        total = sum(1000 + n for n in range(count))
+        self.assertEqual(sum(int(row["total"]) for row in it.sessions()), total)
+        self.assertEqual(it.balances()["al"], 10**6 - count * 10)
+        return round(time.time() - start, 1)
+
+    def test_300_devices_in_an_outage(self):
+        seconds = int(os.environ.get("OUTAGE", "60"))
         with lab.Lab() as self.lab:
             it = self.lab
-            it.group("fast", Class="gold")
-            it.user("al", "fast")
-            it.sell("al", 10**6)
-            given = radius.first(it.login(), CLASS)
-            it.stop_book()
-            threads = [
-                threading.Thread(target=self.device, args=(n, given, seconds)) for n in range(300)
-            ]
-            [thread.start() for thread in threads]
-            [thread.join() for thread in threads]
-            self.assertEqual(self.answered, [False] * 300)
+            self.devices(300, seconds - 6, it.stop_book)
+            self.assertEqual(self.answered, set())
             self.assertTrue(lab.waited(lambda: it.waiting() == 300, 10), it.waiting())
             it.start_book()
-            start = time.time()
-            self.assertTrue(lab.waited(lambda: len(it.sessions()) == 300, 60))
-            took = time.time() - start
-            print(
-                f"300 devices in {seconds} s of outage, over {lab.OVER}: answered 0, all charged after {took:.1f} s",
-                flush=True,
-            )
-            self.assertLess(took, 30)
-            self.assertEqual(
-                sum(int(row["total"]) for row in it.sessions()), sum(1000 + n for n in range(300))
-            )
-            self.assertEqual(it.balances()["al"], 10**6 - 300 * 10)
+            took = self.charged(300, 30)
+            print(f"300 devices in {seconds} s of outage, over {lab.OVER}: answered 0, all charged "
+                  f"after {took} s", flush=True)
+
+    @unittest.skipUnless(lab.PROGRAM, "the stand-in does not sync")
+    def test_a_slow_disk(self):
+        for sync in (20, 200, 1000):
+            with self.subTest(sync=sync), lab.Lab() as self.lab:
+                it = self.lab
+                self.devices(100, 20, lambda: it.slow_down(sync))
+                answered = {row["session"].partition("/")[0] for row in it.sessions()}
+                self.assertLessEqual(self.answered, answered)
+                took = self.charged(100, 400)
+                print(f"a sync takes {sync} ms: {len(self.answered)} of 100 answered in a second, "
+                      f"all charged after {took} s, {it.waiting('aside')} set aside", flush=True)
 
 
 class Ends(unittest.TestCase):

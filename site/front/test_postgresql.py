@@ -51,49 +51,18 @@ class Users(unittest.TestCase):
         self.server("stop")
 
     def run_as(self, *words, **more):
-        return subprocess.run(
-            [
-                "setpriv",
-                "--reuid",
-                "postgres",
-                "--regid",
-                "postgres",
-                "--clear-groups",
-                os.path.join(BIN[0], words[0]),
-                *words[1:],
-            ],
-            check=True,
-            stdout=subprocess.DEVNULL,
-            cwd="/tmp",
-            **more,
-        )
+        user = ["setpriv", "--reuid", "postgres", "--regid", "postgres", "--clear-groups"]
+        how = {"check": True, "stdout": subprocess.DEVNULL, "cwd": "/tmp", **more}
+        return subprocess.run([*user, os.path.join(BIN[0], words[0]), *words[1:]], **how)
 
     def server(self, what):
         if os.path.isdir(self.data):
-            self.run_as(
-                "pg_ctl",
-                "-D",
-                self.data,
-                "-m",
-                "immediate",
-                "-w",
-                "-o",
-                f"-p {self.port} -c listen_addresses=127.0.0.1 -c unix_socket_directories=''",
-                what,
-            )
+            how = f"-p {self.port} -c listen_addresses=127.0.0.1 -c unix_socket_directories=''"
+            self.run_as("pg_ctl", "-D", self.data, "-m", "immediate", "-w", "-o", how, what)
 
     def sql(self, text):
-        self.run_as(
-            "psql",
-            "-q",
-            "-h",
-            "127.0.0.1",
-            "-p",
-            str(self.port),
-            "-v",
-            "ON_ERROR_STOP=1",
-            input=text.encode(),
-        )
+        words = ["-q", "-h", "127.0.0.1", "-p", str(self.port), "-v", "ON_ERROR_STOP=1"]
+        self.run_as("psql", *words, input=text.encode())
 
     def test_users(self):
         it = self.lab
