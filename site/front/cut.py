@@ -1,4 +1,4 @@
-"""Ends open sessions of accounts below 0: `cut.py FOLDER` asks the desk once a minute, and radclient
+"""Ends open sessions of accounts below 0: `cut.py FOLDER` asks the desk once a minute. radclient
 sends each one's access server a Disconnect-Request, if it has `cut` in clients.conf. It keeps
 nothing. Each hour FreeRADIUS gets to send again what went aside."""
 import concurrent.futures

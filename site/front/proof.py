@@ -36,7 +36,9 @@ class Proof:
     def tries(self):
         left, stamp = self.asked()
         if not self.sells:
-            yield from self.without_sale()
+            wanted = "Access-Reject" if self.plan["unit"] else "Access-Accept"
+            self.report(self.login(wanted) if self.has_login else None, 1000)
+            yield f"a login got {wanted}, and a report was answered"
             return
         if left:
             yield f"{TEST_NAME} has something of an earlier run: a report uses it up"
@@ -55,12 +57,6 @@ class Proof:
         if self.has_login:
             self.login("Access-Reject")
             yield f"a login without money is refused: {TEST_NAME} has 0"
-
-    def without_sale(self):
-        wanted = "Access-Reject" if self.plan["unit"] else "Access-Accept"
-        stamp = self.login(wanted) if self.has_login else None
-        self.report(stamp, 1000)
-        yield f"a login got {wanted}, and a report was answered"
 
     def asked(self):
         """What radacctd's desk says to FreeRADIUS: the octets that the account may use, a stamp."""

@@ -6,7 +6,6 @@ the site's: it adds what they lack, and secrets that are radacctd's.
 
 import os
 import re
-import tempfile
 
 from radacctd_site.core import Failed, corrections, files as on_disk, machine, places
 from radacctd_site.core.steps import Command, File, Folder, Step, Unit, is_fresh
@@ -24,20 +23,18 @@ EDITED = ("settings.conf", "clients.conf", "users.conf")
 UNITS = ("radacctd-front.service", "radacctd-cut.service")
 # What codes are digested with, also by the pages that sell them: systemd hands it to their service.
 CODES, PAGES = "/etc/radacctd-codes.key", "radacctd-site.service"
-IS_ON = f"/etc/systemd/system/multi-user.target.wants/{UNITS[0]}"
 # How much of a burst of logins the kernel keeps, in octets.
 BURST, KERNEL = 4_194_304, "/proc/sys/net/core/rmem_max"
 
 
 def packages(answers):
-    found = OF_DEBIAN + (OF_POSTGRESQL if answers.sql else [])
-    return found if answers.has_front else []
+    return OF_DEBIAN + (OF_POSTGRESQL if answers.sql else []) if answers.has_front else []
 
 
 def files(answers, config):
     """What is on the disk."""
     if not answers.has_front:
-        if os.path.lexists(IS_ON):
+        if os.path.lexists(f"/etc/systemd/system/multi-user.target.wants/{UNITS[0]}"):
             raise Failed("FreeRADIUS is in front, and the answers have freeradius = false: "
                          f"first systemctl disable --now {' '.join(UNITS)}")
         return
@@ -45,7 +42,7 @@ def files(answers, config):
     config.of_features.append(shared)
     config.secret_of = clients.secret_of
     yield Folder(RADDB, 0o750, group=places.RADIUS_USER)
-    for name in whole():
+    for name in sorted(set(os.listdir(f"{HERE}/raddb")) - set(EDITED)):
         yield of_group(name, own(f"raddb/{name}"))
     yield File(CODES, lambda old: old or code_key(answers), 0o600)
     yield of_group("settings.conf", lambda old: settings(old, config))
@@ -56,7 +53,8 @@ def files(answers, config):
     yield Folder(CERTS, 0o750, group=places.RADIUS_USER)
     yield Folder(AUTHORITY, 0o700)
     yield Step("make the site's own authority, and a certificate of it for FreeRADIUS",
-               has_certificates, lambda: make_certificates(answers))
+               lambda: all(os.path.exists(f"{CERTS}/{it}") for it in CERTIFICATES),
+               lambda: make_certificates(answers))
     yield File("/etc/sysctl.d/radacctd-front.conf", f"net.core.rmem_max = {BURST}\n", 0o644)
 
 
@@ -68,7 +66,9 @@ def units(answers):
                   "systemd-sysctl.service")
     yield Command("stop Debian's own FreeRADIUS", lambda: not is_debians_on(), "systemctl",
                   "disable", "--now", "freeradius.service")
-    yield Unit(UNITS[0], [f"{RADDB}/*", f"{CERTS}/*"], test())
+    # FreeRADIUS tests its files as its own user.
+    test = [*machine.as_user(places.RADIUS_USER), "freeradius", "-C", "-l", "stdout", "-d", RADDB]
+    yield Unit(UNITS[0], [f"{RADDB}/*", f"{CERTS}/*"], test)
     yield Unit(UNITS[1])
     yield Command("restart the pages' service with the key of codes", is_handed, "systemctl",
                   "restart", PAGES)
@@ -85,17 +85,8 @@ def tries(answers, config):
         yield from proof.Proof(answers, config).tries()
 
 
-def whole():
-    return sorted(set(os.listdir(f"{HERE}/raddb")) - set(EDITED))
-
-
 def of_group(name, change):
     return File(f"{RADDB}/{name}", change, 0o640, places.RADIUS_USER)
-
-
-def test():
-    """What lets FreeRADIUS test its files, as its own user."""
-    return [*machine.as_user(places.RADIUS_USER), "freeradius", "-C", "-l", "stdout", "-d", RADDB]
 
 
 def is_debians_on():
@@ -114,15 +105,10 @@ def refuse_if_in_use():
                          "end it: systemctl disable --now freeradius")
 
 
-def with_value(text, name, new):
-    """settings.conf in which a name has this value."""
-    return re.sub(rf"(?m)^([^#\n]*?(?<!\w){name} = )[^\s,]+", rf"\g<1>{new}", text, count=1)
-
-
 def shared():
     """The secrets that the other machine of a pair is to have, too."""
-    found = {f"client-{name}": clients.value(text, "secret") for name, text in clients.known()}
-    return {**found, "codes": on_disk.text(CODES).strip()}
+    return {"codes": on_disk.text(CODES).strip(), **{
+        f"client-{name}": clients.value(text, "secret") for name, text in clients.known()}}
 
 
 def code_key(answers):
@@ -139,33 +125,28 @@ def settings(old, config):
              "book_secret": config.clients["front"]["secret"],
              "code_key": on_disk.text(CODES).strip()}
     for name, it in known.items():
-        text = with_value(text, name, it)
+        text = re.sub(rf"(?m)^([^#\n]*?(?<!\w){name} = )[^\s,]+", rf"\g<1>{it}", text, count=1)
     return text
 
 
-def has_certificates():
-    return all(os.path.exists(f"{CERTS}/{it}") for it in CERTIFICATES)
+def made(name, *more):
+    """A key, and a certificate of it for ten years."""
+    said = machine.given(["openssl", "req", "-x509", "-newkey", "rsa:2048", "-nodes", "-days", "3650",
+                          "-subj", f"/CN={name}", "-keyout", "-", *more])
+    return re.findall("(?s)-----BEGIN.*?-----END.*?-----\n", said)
 
 
 def make_certificates(answers):
     """A new authority, unless there is one, and a certificate of it."""
-    name = answers.host or answers.name or "radacctd"
-    begin = ("openssl", "req", "-x509", "-newkey", "rsa:2048", "-nodes", "-days", "3650")
-    with tempfile.TemporaryDirectory(dir="/run") as folder:
-        made = lambda it: os.path.join(folder, it)
-        if not os.path.exists(f"{AUTHORITY}/ca.key"):
-            machine.given([*begin, "-subj", f"/CN=Authority of {name[:40]}", "-keyout",
-                           made("ca.key"), "-out", made("ca.pem")])
-            for it in ("ca.pem", "ca.key"):
-                File(f"{AUTHORITY}/{it}", on_disk.text(made(it)), 0o600).do()
-        machine.given([*begin, "-subj", f"/CN={name[:64]}", "-CA", f"{AUTHORITY}/ca.pem", "-CAkey",
-                       f"{AUTHORITY}/ca.key", "-addext", "basicConstraints=CA:FALSE", "-addext",
-                       "extendedKeyUsage=serverAuth", "-keyout", made("server.key"), "-out",
-                       made("server.pem")])
-        texts = [on_disk.text(it) for it in (f"{AUTHORITY}/ca.pem", made("server.pem"),
-                                             made("server.key"))]
-        for it, text in zip(CERTIFICATES, texts):
-            of_group(f"certs/{it}", text).do()
+    name, by = answers.host or answers.name or "radacctd", f"{AUTHORITY}/ca"
+    if not os.path.exists(f"{by}.key"):
+        key, certificate = made(f"Authority of {name[:40]}")
+        File(f"{by}.pem", certificate, 0o600).do()
+        File(f"{by}.key", key, 0o600).do()
+    key, certificate = made(name[:64], "-CA", f"{by}.pem", "-CAkey", f"{by}.key", "-addext",
+                            "basicConstraints=CA:FALSE", "-addext", "extendedKeyUsage=serverAuth")
+    for it, text in zip(CERTIFICATES, (on_disk.text(f"{by}.pem"), certificate, key)):
+        of_group(f"certs/{it}", text).do()
 
 
 def keeps_burst():

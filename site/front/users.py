@@ -24,20 +24,16 @@ def of(answers, of_group):
         yield of_group("users.conf", lambda old: old or POSTGRESQL.format(
             password=password(answers.sql["password_file"]), **answers.sql))
         return
-    sample = clients.own("raddb/users.conf")
-    yield of_group("users.conf", lambda old: sample if old is None else old)
+    yield of_group("users.conf", lambda old: old or clients.own("raddb/users.conf"))
     yield Step(f"make {FILE}, with FreeRADIUS' tables of users",
-               lambda: rows("radusergroup") is not None, make_tables)
+               lambda: rows("radusergroup") is not None, lambda: sql(
+                   f"BEGIN;\n{machine.text_of(places.RADIUS_USER, SCHEMA)}\nCOMMIT;\n"))
     rights = lambda: (*steps.ids(places.USER, places.RADIUS_USER), 0o640)
     yield Step(f"let {places.RADIUS_USER} read {FILE}",
                lambda: steps.rights_of(os.lstat(FILE)) == rights(),
                lambda: files.give(FILE, places.USER, *rights()[1:]))
     yield Step(f"make the login {clients.TEST_NAME}, which has no money but for a try",
                lambda: bool(rows("radcheck")), make_login)
-
-
-def make_tables():
-    sql(f"BEGIN;\n{machine.text_of(places.RADIUS_USER, SCHEMA)}\nCOMMIT;\n")
 
 
 def password(path):

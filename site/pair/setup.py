@@ -24,29 +24,20 @@ def files(answers, config):
     if others and not os.path.exists(CONF):
         raise Failed(f"the book has {len(others)} accounts already: make a pair of it by the "
                      "steps of site/pair/README.md, which copy the book")
-    secret = secret_of(answers)
-    yield of_group("pair.conf", lambda old: conf(old, answers, secret))
-    for name in ("pair", "pair-taken"):
-        yield of_group(name, own(name))
+    # What both machines share: that of the file, or a new one.
+    found = re.search(r"(?m)^\s*secret = (\S+)$", on_disk.text(CONF))
+    secret = found[1] if found else answers.secret("pair")
+    for name, change in (("pair.conf", lambda old: conf(old, answers, secret)),
+                         ("pair", own("pair")), ("pair-taken", own("pair-taken"))):
+        yield File(f"{RADDB}/{name}", change, 0o640, places.RADIUS_USER)
     yield steps.folder_of(places.RADIUS_USER, "/var/lib/radacctd-front/other")
     if not answers.secrets and not answers.pair["second"]:
-        shared = lambda: {**config.secrets(), "pair": secret}
-        yield Once(OTHER, lambda _: text(answers, shared()), 0o600)
+        yield Once(OTHER, lambda _: text(answers, {**config.secrets(), "pair": secret}), 0o600)
 
 
 def own(name):
     with open(f"{HERE}/raddb/{name}", encoding="utf-8") as file:
         return file.read()
-
-
-def of_group(name, change):
-    return File(f"{RADDB}/{name}", change, 0o640, places.RADIUS_USER)
-
-
-def secret_of(answers):
-    """What both machines share: that of the file, or a new one."""
-    found = re.search(r"(?m)^\s*secret = (\S+)$", on_disk.text(CONF))
-    return found[1] if found else answers.secret("pair")
 
 
 def conf(old, answers, secret):
