@@ -140,6 +140,10 @@ class Browser:
         """By how many pixels the page is wider than the window."""
         return self.js("return document.documentElement.scrollWidth - window.innerWidth")
 
+    def theme(self, name):
+        feature = {"name": "prefers-color-scheme", "value": name}
+        self.debug("Emulation.setEmulatedMedia", features=[feature])
+
     def poor_contrast(self):
         """How many texts were looked at, and those that are hard to read."""
         return self.js(CONTRAST)

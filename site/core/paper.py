@@ -5,9 +5,9 @@ import segno
 from radacctd_site.core import web
 
 
-def qr(text):
-    """A picture (SVG) of a text for a phone."""
-    return segno.make(text, micro=False).svg_inline(border=1, light="#fff", omitsize=True,
+def qr(text, border=1):
+    """A picture (SVG) of a text for a phone, which reads it from a dark page if the border is 4."""
+    return segno.make(text, micro=False).svg_inline(border=border, light="#fff", omitsize=True,
                                                     svgclass=None, lineclass=None)
 
 

@@ -51,4 +51,4 @@ def change(visit):
             back="/card/")
     key, url = new(visit.db, account), places.settings()["url"].rstrip("/")
     return visit.page("guests/card.html", account=account, key=key, url=url,
-                      code=paper.qr(f"{url}/?k={key}"))
+                      code=paper.qr(f"{url}/?k={key}", border=4))
