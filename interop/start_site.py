@@ -19,10 +19,11 @@ def answers(box):
     """The sample with the names of this site, as an operator edits it."""
     text = box.must("radacctl setup --sample")
     text = text.replace("accounts.example.org", HOST)
-    more = [("attic", "10.0.2.0/24", "unifi"), ("hall", "127.0.0.20", "openwrt")]
-    for name, address, vendor in more:
-        lines = f'name = "{name}"\naddress = "{address}"\nvendor = "{vendor}"\n'
-        text += f"\n[[access_server]]\n{lines}"
+    more = [("attic", "10.0.2.0/24", "10.0.2.9", "unifi"),
+            ("hall", "127.0.0.20", "127.0.0.20", "openwrt")]
+    for name, address, member, vendor in more:
+        text += f'\n[[access_server]]\nname = "{name}"\naddress = "{address}"\n'
+        text += f'members = ["{member}"]\nvendor = "{vendor}"\n'
     return text
 
 

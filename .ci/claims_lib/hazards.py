@@ -102,7 +102,7 @@ KEPT = {
         "Let no access server send the Class `debit`",
     ),
     "site/front/README.md": (
-        "MikroTik for a second only",
+        "MikroTik for seconds only",
         "Somebody who has seen a stamp can charge that account from any access server",
     ),
     "site/guests/README.md": ("So end cards at check-out",),

@@ -4,6 +4,7 @@ person, and why. docs/proofs/FIGURES.md has the table.
 
 # The scripts that run a page's commands, by its path without `.md`.
 RUN = {
+    "docs/CAMPUS": "interop/start",
     "docs/START": "interop/start",
     "site/copies/README": "interop/gone",
     "site/setup/README": "interop/package",
@@ -14,7 +15,6 @@ BY_HAND = {
     "docs/A-LARGE-SITE": "interop/forward does the same over its own books, interop/systemd types "
                          "the steps of a change; the kernel's settings nobody does",
     "docs/ACCESS-SERVERS": "each setting is of another maker's device: interop/access-servers",
-    "docs/CAMPUS": "site/front/test_campus.py makes such a FreeRADIUS",
     "docs/GONE": "each way needs damage of its own; interop/flips and interop/telling make some of it",
     "docs/TROUBLE": "each symptom is another; crates/acct_program_tests makes what is explained",
     "site/desk/README": "site/desk/live.py gives its commands; interop/queries runs that of a month",

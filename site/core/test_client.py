@@ -18,15 +18,14 @@ from radacctd_site.core import (
 from radacctd_site.core.features import CASHIER, OPERATOR
 
 PASSWORD = "a-long-enough-one"
-
-
 PLAN = {"class": "default", "block": 1000, "unit": 5, "count": "both"}
 
 
 def answers(*access_servers, **more):
     """What a set-up was told, as a feature's part of it sees that."""
-    found = {"plans": [PLAN], "access_servers": list(access_servers), "has_front": True,
-             "sql": None, "pair": None, "host": "", "name": "", "secrets": {}, "found": {}, **more}
+    found = {"plans": [PLAN], "access_servers": [{"members": [], **it} for it in access_servers],
+             "has_front": True, "is_own": False, "sql": None, "pair": None, "host": "", "name": "",
+             "secrets": {}, "found": {}, **more}
     secret = lambda name, begin="": found["secrets"].get(name) or begin + secrets.token_hex(16)
     return types.SimpleNamespace(**found, secret=secret)
 

@@ -14,16 +14,15 @@ HERE = os.path.dirname(os.path.realpath(__file__))
 RADDB = "/etc/radacctd-front"
 # The account of the try at the end of a set-up, and where its login and its reports come from.
 TEST_NAME, TEST_ADDRESS = "radacctd-setup", "127.0.0.8"
-TEST = {"name": TEST_NAME, "address": TEST_ADDRESS, "vendor": "mikrotik"}
-# By vendor: the attributes of a quota, and the port for Disconnect-Requests.
+TEST = {"name": TEST_NAME, "address": TEST_ADDRESS, "vendor": "mikrotik", "members": []}
+# By vendor: the attributes of a quota, and another port for Disconnect-Requests than the usual one.
 QUOTAS = {"mikrotik": "mikrotik", "pfsense": "pfsense"}
-CUT_PORTS = {"openwrt": 3799, "mikrotik": 3799, "unifi": 3799, "pfsense": 3799, "aruba": 3799,
-             "cisco": 1700}
+CUT_PORT, CUT_PORTS = 3799, {"cisco": 1700}
 CLIENT = """
 client {name} {{
 	ipaddr = {address}
 	secret = {secret}
-	quota = {quota}, login = {login}, pays = yes, cut = {cut}
+	quota = {quota}, login = {login}, pays = yes, cut = {cut}{named}
 }}
 """
 
@@ -54,10 +53,10 @@ def written(old, answers):
         if ":" in it["address"] and not os.path.exists(f"{RADDB}/site.conf"):
             raise Failed(f"{it['name']} has an IPv6 address: first write a `listen` for it "
                                f"into {RADDB}/site.conf")
-        is_cut = it is not TEST and "/" not in it["address"]
         more = {"secret": answers.secret(f"client-{it['name']}"),
                 "quota": QUOTAS.get(it["vendor"], "none"),
-                "cut": CUT_PORTS.get(it["vendor"], "no") if is_cut else "no",
+                "named": f'\n\tmembers = "{" ".join(it["members"])}"' if it["members"] else "",
+                "cut": "no" if it is TEST else CUT_PORTS.get(it["vendor"], CUT_PORT),
                 # A router that begins its ids anew at a boot.
                 "login": "yes" if it["vendor"] == "mikrotik" else "no"}
         text += CLIENT.format(**it, **more)

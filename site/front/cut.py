@@ -28,15 +28,18 @@ def value(text, name):
 
 
 def servers(text):
-    """Who can be asked to end a session, of clients.conf: by NAS-Identifier, and by address."""
+    """Who can be asked to end a session, of clients.conf: by NAS-Identifier, and by address. Of a
+    network all members are asked: those without that session refuse."""
     found = {}
     for name, block in BLOCK.findall(text):
-        with contextlib.suppress(ValueError):
-            address = ipaddress.ip_address(value(block, "ip(?:v[46])?addr"))
-            it = {key: value(block, key) for key in ("secret", "user_name")}
-            host = f"[{address}]" if address.version > 4 else address
-            it["address"] = f"{host}:{int(value(block, 'cut'))}"
-            found |= {(value(block, "nas") or name).encode(): it, address.packed: it}
+        for host in value(block, "members").split() or [value(block, "ip(?:v[46])?addr")]:
+            with contextlib.suppress(ValueError):
+                address = ipaddress.ip_address(host)
+                it = {key: value(block, key) for key in ("secret", "user_name")}
+                host = f"[{address}]" if address.version > 4 else address
+                it["address"] = f"{host}:{int(value(block, 'cut'))}"
+                for device in ((value(block, "nas") or name).encode(), address.packed):
+                    found.setdefault(device, []).append(it)
     return found
 
 
@@ -79,11 +82,11 @@ def cut(settings, clients, now):
     known, heard, asked = servers(clients), int(value(settings, "heard")), {}
     for it in overruns(settings):
         device = urllib.parse.unquote_to_bytes(it["device"][1:])
-        if device in known and now - it["last"] <= heard:
-            asked.setdefault(device, []).append(request(it, known[device], now))
+        for server in known.get(device, []) if now - it["last"] <= heard else ():
+            asked.setdefault(server["address"], (server, []))[1].append(request(it, server, now))
     with concurrent.futures.ThreadPoolExecutor(max(1, len(asked))) as pool:
-        list(pool.map(ask, map(known.get, asked), asked.values()))
-    return sum(map(len, asked.values()))
+        list(pool.map(lambda it: ask(*it), asked.values()))
+    return sum(len(requests) for _, requests in asked.values())
 
 
 def send_again(kept, now):

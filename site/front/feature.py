@@ -7,4 +7,5 @@ CRITICAL = {
     "users-away": "the database of users does not answer: logins are refused",
     "reports-wait": "reports wait for radacctd, and are not answered",
 }
-WARNINGS = {"reports-aside": "radacctd does not take some reports, and nobody was charged"}
+WARNINGS = {"reports-aside": "radacctd does not take some reports, and nobody was charged",
+            "cut-off": "an access server that nobody asks: whoever uses too much goes on there"}

@@ -11,7 +11,7 @@ from radacctd_site.front import clients, setup, users
 from radacctd_site.front.clients import RADDB
 
 UNIT = "radacctd-front.service"
-RESTART = f"systemctl restart {UNIT}"
+RESTART = f"systemctl restart {UNIT}, or freeradius if it is your own"
 # Only FreeRADIUS' own lines have a device that it does not know, or whose secret is another one.
 BEGIN = r"(?m)^.{24} : \w+: "
 UNKNOWN = re.compile(BEGIN + r"Ignoring request to .* unknown client (\S+) port \d+ ")
@@ -23,14 +23,13 @@ MOST_NAMED = 3
 def look_at(answers, config):
     if not answers.has_front:
         return
+    if not answers.is_own:
+        yield from looks.certificate(f"{setup.CERTS}/server.pem",
+                                     f"remove {setup.CERTS}, and give radacctl setup")
+        yield from ignored()
+        yield from users_away(answers.sql) if answers.sql else users_here()
     yield from secrets()
-    yield from looks.certificate(f"{setup.CERTS}/server.pem",
-                                 f"remove {setup.CERTS}, and give radacctl setup")
-    if not answers.sql:
-        yield from looks.store(users.FILE)
-    yield from everybody(answers)
-    yield from users_away(answers.sql) if answers.sql else ()
-    yield from ignored()
+    yield from access_servers()
     yield from kept()
     client = config.clients["front"]
     if not (client.get("stamped") is client.get("proxy") is True):
@@ -49,16 +48,25 @@ def secrets():
                              [it for it in found if it[1] and "change-me" not in it[1]])
 
 
-def everybody(answers):
-    """A client that is every address, a login without a password, or a week of counting alone."""
+def access_servers():
+    """A client that is every address, or where nobody is cut off; a week of counting alone."""
     for name, text in clients.known():
-        if re.fullmatch(r"0\.0\.0\.0|::|\*|.*/[0-7]", clients.value(text, "ip(?:v[46])?addr")):
+        address, port = clients.value(text, "ip(?:v[46])?addr"), clients.value(text, "cut")
+        if re.fullmatch(r"0\.0\.0\.0|::|\*|.*/[0-7]", address):
             yield Fault("front-wrong", f"client {name} of {RADDB}/clients.conf is every address",
                         f"write the access servers' own addresses; {RESTART}")
+        elif not port or port != "no" and "/" in address and not clients.value(text, "members"):
+            yield Fault("cut-off", f"client {name} of {RADDB}/clients.conf: nobody is cut off there",
+                        'write cut = 3799, and of a network members = "ADDRESS .."; else cut = no')
     if clients.value(files.text(f"{RADDB}/settings.conf"), "observe") == "yes":
         yield Fault("front-wrong", "observe = yes: whoever was proved is let in, without a quota",
                     f"once you have seen enough, write observe = no into settings.conf; {RESTART}")
-    for name in users.open_to_all() if not answers.sql else ():
+
+
+def users_here():
+    """The file of users, and who logs in without a password."""
+    yield from looks.store(users.FILE)
+    for name in users.open_to_all():
         yield Fault("front-wrong", f"{name} in {users.FILE} logs in without a password",
                     "give it one, or remove its row of radcheck")
 

@@ -25,8 +25,8 @@ class Proof:
 
     def __init__(self, answers, config):
         self.plan = next(it for it in answers.plans if it["class"] == "default")
-        # Nobody of ours is in a site's own database.
-        self.has_login = not answers.sql
+        # Nobody of ours is among a site's own users.
+        self.has_login = not (answers.sql or answers.is_own)
         # A sale is in one book, and a report in both: one of them would have a debt.
         self.sells = self.plan["unit"] and not answers.pair
         self.settings, self.key = files.text(f"{RADDB}/settings.conf"), config.keys["site"]
@@ -48,7 +48,7 @@ class Proof:
         self.expect(BLOCKS * block, "a sale")
         stamp = self.login("Access-Accept") if self.has_login else self.asked()[1]
         yield "a login with money is accepted" if self.has_login else (
-            "no login is tried: users are in a database of yours. Try one: radtest")
+            "no login is tried: users are your own. Try one: radtest")
         self.report(stamp, block)
         self.expect((BLOCKS - 1) * block, "a report")
         yield f"a report of {block} octets is answered, and costs {self.plan['unit']}"
@@ -110,7 +110,7 @@ class Proof:
             f'Acct-Session-Id = "{secrets.token_hex(8)}"',
             f"Acct-{name}-Octets = {octets % 2**32}", f"Acct-{name}-Gigawords = {octets >> 32}"])
         if "Received Accounting-Response" not in said:
-            raise Failed("FreeRADIUS did not answer a report: journalctl -u radacctd-front")
+            raise Failed("FreeRADIUS did not answer a report: see its journal, or its log")
 
     def client(self, port, act, lines):
         """What radclient prints of a packet of the set-up's own client, which it sends twice. The

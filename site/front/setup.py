@@ -8,7 +8,7 @@ import os
 import re
 
 from radacctd_site.core import Failed, corrections, files as on_disk, machine, places
-from radacctd_site.core.steps import Command, File, Folder, Step, Unit, is_fresh
+from radacctd_site.core.steps import Command, File, Folder, Step, Unit, folder_of, is_fresh
 from radacctd_site.front import clients, proof, users
 from radacctd_site.front.clients import HERE, RADDB, own
 
@@ -21,6 +21,8 @@ OF_POSTGRESQL = ["freeradius-postgresql", "postgresql-client"]
 # What a site edits. All other files of raddb are ours.
 EDITED = ("settings.conf", "clients.conf", "users.conf")
 UNITS = ("radacctd-front.service", "radacctd-cut.service")
+# The first link of docs/CAMPUS.md, in a FreeRADIUS of the site's own.
+LINKED = "/etc/freeradius/3.0/mods-enabled/radacctd-front"
 # What codes are digested with, also by the pages that sell them: systemd hands it to their service.
 CODES, PAGES = "/etc/radacctd-codes.key", "radacctd-site.service"
 # How much of a burst of logins the kernel keeps, in octets.
@@ -33,12 +35,14 @@ def packages(answers):
 
 def files(answers, config):
     """What is on the disk."""
+    is_made = answers.has_front and not answers.is_own
+    if is_made:
+        refuse_if_in_use()
+    elif os.path.lexists(f"/etc/systemd/system/multi-user.target.wants/{UNITS[0]}"):
+        raise Failed("the set-up's FreeRADIUS is in front, and the answers say otherwise: first "
+                     f"systemctl disable --now {' '.join(UNITS)}")
     if not answers.has_front:
-        if os.path.lexists(f"/etc/systemd/system/multi-user.target.wants/{UNITS[0]}"):
-            raise Failed("FreeRADIUS is in front, and the answers have freeradius = false: "
-                         f"first systemctl disable --now {' '.join(UNITS)}")
         return
-    refuse_if_in_use()
     config.of_features.append(shared)
     config.secret_of = clients.secret_of
     yield Folder(RADDB, 0o750, group=places.RADIUS_USER)
@@ -47,14 +51,16 @@ def files(answers, config):
     yield File(CODES, lambda old: old or code_key(answers), 0o600)
     yield of_group("settings.conf", lambda old: settings(old, config))
     yield of_group("clients.conf", lambda old: clients.written(old, answers))
-    # The unit makes what is in it.
     yield Folder(KEPT, 0o700, places.RADIUS_USER, places.RADIUS_USER)
+    for name in ("waits", "aside", "again", "lost"):
+        yield folder_of(places.RADIUS_USER, f"{KEPT}/{name}")
     yield from users.of(answers, of_group)
-    yield Folder(CERTS, 0o750, group=places.RADIUS_USER)
-    yield Folder(AUTHORITY, 0o700)
-    yield Step("make the site's own authority, and a certificate of it for FreeRADIUS",
-               lambda: all(os.path.exists(f"{CERTS}/{it}") for it in CERTIFICATES),
-               lambda: make_certificates(answers))
+    if is_made:
+        yield Folder(CERTS, 0o750, group=places.RADIUS_USER)
+        yield Folder(AUTHORITY, 0o700)
+        yield Step("make the site's own authority, and a certificate of it for FreeRADIUS",
+                   lambda: all(os.path.exists(f"{CERTS}/{it}") for it in CERTIFICATES),
+                   lambda: make_certificates(answers))
     yield File("/etc/sysctl.d/radacctd-front.conf", f"net.core.rmem_max = {BURST}\n", 0o644)
 
 
@@ -64,11 +70,12 @@ def units(answers):
         return
     yield Command("let the kernel keep a burst of logins", keeps_burst, "systemctl", "restart",
                   "systemd-sysctl.service")
-    yield Command("stop Debian's own FreeRADIUS", lambda: not is_debians_on(), "systemctl",
-                  "disable", "--now", "freeradius.service")
-    # FreeRADIUS tests its files as its own user.
-    test = [*machine.as_user(places.RADIUS_USER), "freeradius", "-C", "-l", "stdout", "-d", RADDB]
-    yield Unit(UNITS[0], [f"{RADDB}/*", f"{CERTS}/*"], test)
+    if not answers.is_own:
+        yield Command("stop Debian's own FreeRADIUS", lambda: not is_debians_on(), "systemctl",
+                      "disable", "--now", "freeradius.service")
+        # FreeRADIUS tests its files as its own user.
+        test = [*machine.as_user(places.RADIUS_USER), "freeradius", "-C", "-l", "stdout", "-d", RADDB]
+        yield Unit(UNITS[0], [f"{RADDB}/*", f"{CERTS}/*"], test)
     yield Unit(UNITS[1])
     yield Command("restart the pages' service with the key of codes", is_handed, "systemctl",
                   "restart", PAGES)
@@ -81,6 +88,8 @@ def is_handed():
 
 def tries(answers, config):
     """What shows at the end that it works."""
+    if answers.is_own and not os.path.lexists(LINKED):
+        raise Failed("your FreeRADIUS has no line of radacctd's yet: docs/CAMPUS.md has them")
     if answers.has_front:
         yield from proof.Proof(answers, config).tries()
 
@@ -100,9 +109,9 @@ def refuse_if_in_use():
         said = machine.run("dpkg", "-V", "freeradius-config")[1]
         changed = re.findall(r"(?m)^..5\S* c (\S+)$", said)
         if changed:
-            raise Failed(f"FreeRADIUS serves here by files of your own, as {changed[0]}: add "
-                         "radacctd to it (site/front/README.md, \"Your own FreeRADIUS\"), or "
-                         "end it: systemctl disable --now freeradius")
+            raise Failed(f"FreeRADIUS serves here by files of your own, as {changed[0]}: keep it "
+                         "by freeradius = \"own\" (docs/CAMPUS.md), or end it: systemctl disable "
+                         "--now freeradius")
 
 
 def shared():

@@ -16,10 +16,10 @@ from test_radius import CLASS, ID, NAS_NAME, START, STATION, STATUS, USER
 class AccessServer(threading.Thread):
     """Takes Disconnect-Requests on a port and keeps what they had."""
 
-    def __init__(self, answers=True):
+    def __init__(self, answers=True, at=("127.0.0.1", 0)):
         super().__init__(daemon=True)
         self.socket = socket.socket(socket.AF_INET, socket.SOCK_DGRAM)
-        self.socket.bind(("127.0.0.1", 0))
+        self.socket.bind(at)
         self.port = self.socket.getsockname()[1]
         self.answers, self.asked, self.seen = answers, [], []
         self.start()
@@ -68,11 +68,12 @@ class Cut(unittest.TestCase):
         ]
         self.assertTrue(self.lab.report(pairs))
 
-    def cut(self, now, **servers):
+    def cut(self, now, more="", **servers):
         """A round, by the settings of the front and these clients."""
         text = "".join(
             f"client {name} {{\n\tipaddr = 127.0.0.1\n\tsecret = 'coa-secret-1'\n"
-            f"\tcut = {it.port}, nas = {name}, user_name = {'yes' if name == 'two' else 'no'}\n}}\n"
+            f"\tcut = {it.port}, nas = {name}, user_name = {'yes' if name == 'two' else 'no'}\n"
+            f"{more}}}\n"
             for name, it in servers.items()
         )
         with open(os.path.join(self.lab.raddb, "settings.conf"), encoding="utf-8") as file:
@@ -101,15 +102,16 @@ class Cut(unittest.TestCase):
         self.assertEqual([it.get(USER) for it in two.asked], [b"bo"])
         self.assertEqual(len(one.asked), 3)
 
-    def test_many_sessions(self):
+    def test_many_sessions_at_two_members_of_a_network(self):
         one = AccessServer()
+        two = AccessServer(at=("127.0.0.2", one.port))
         for n in range(300):
             self.open(f"s{n}", 100)
         self.open("s0", 20 * lab.MEBIBYTE, status=3)
         start = time.time()
-        self.assertEqual(self.cut(int(start), one=one), 300)
+        self.assertEqual(self.cut(int(start), "members = '127.0.0.1 127.0.0.2'\n", one=one), 600)
         print("300 sessions took", round(time.time() - start, 1), "s", flush=True)
-        self.assertEqual(len({it[ID] for it in one.asked}), 300)
+        self.assertEqual([len({it[ID] for it in each.asked}) for each in (one, two)], [300, 300])
 
     def test_odd_texts(self):
         """What a device names itself is no line of another request."""
@@ -118,14 +120,8 @@ class Cut(unittest.TestCase):
         for n, name in enumerate(
             (b'x"\nUser-Name = "bo', b"0x616c", b"%{User-Name}\\", b"\0", b"a,b = c")
         ):
-            pairs = [
-                (STATUS, START),
-                (ID, name),
-                (USER, "al"),
-                (NAS_NAME, "one"),
-                (CLASS, self.given),
-                (STATION, name),
-            ]
+            pairs = [(STATUS, START), (ID, name), (USER, "al"), (NAS_NAME, "one"),
+                     (CLASS, self.given), (STATION, name)]
             self.assertTrue(self.lab.report(pairs), n)
         self.assertEqual(self.cut(int(time.time()), one=one), 6)
         self.assertEqual(

@@ -57,18 +57,22 @@ class Clients(unittest.TestCase):
 
 class CutOff(unittest.TestCase):
     def test_who_can_be_asked(self):
-        """By its name or its address; no network, and nobody without a port."""
+        """By its name or its address, and each member of a network; else the check names it."""
         text = clients.written(None, wanted(
-            LOBBY, {"name": "attic", "address": "10.0.2.0/24", "vendor": "unifi"},
-            {"name": "old", "address": "10.0.0.9", "vendor": "other"},
-            {"name": "hall", "address": "10.0.0.3", "vendor": "cisco"}))
+            {"name": "attic", "address": "10.0.2.0/24", "vendor": "other", "members": ["10.0.2.1",
+             "10.0.2.2"]}, {"name": "hall", "address": "10.0.0.3", "vendor": "cisco"}))
         by_hand = '\nclient six {\n\tipv6addr = fd00::1\n\tcut = 3799, nas = "roof 1"\n}\n'
         found = cut.servers(text + by_hand)
-        self.assertEqual({name: it["address"] for name, it in found.items()}, {
-            b"lobby": "10.0.0.1:3799", b"\n\0\0\1": "10.0.0.1:3799", b"hall": "10.0.0.3:1700",
-            b"\n\0\0\3": "10.0.0.3:1700", b"roof 1": "[fd00::1]:3799",
-            b"\xfd" + bytes(14) + b"\1": "[fd00::1]:3799"})
-        self.assertRegex(found[b"lobby"]["secret"], "^[0-9a-f]{32}$")
+        self.assertEqual({name: [it["address"] for it in all_] for name, all_ in found.items()}, {
+            b"attic": ["10.0.2.1:3799", "10.0.2.2:3799"], b"\n\0\2\1": ["10.0.2.1:3799"],
+            b"\n\0\2\2": ["10.0.2.2:3799"], b"hall": ["10.0.0.3:1700"],
+            b"\n\0\0\3": ["10.0.0.3:1700"], b"roof 1": ["[fd00::1]:3799"],
+            b"\xfd" + bytes(14) + b"\1": ["[fd00::1]:3799"]})
+        self.assertRegex(found[b"attic"][0]["secret"], "^[0-9a-f]{32}$")
+        for old, new, count in (("", "", 0), ("members", "#", 1), ("cut = 1700", "cut = no", 0),
+                                (", cut = 1700", "", 1)):
+            with mock.patch.object(files, "text", lambda _, it=text.replace(old, new): it):
+                self.assertEqual(len([*looks.access_servers()]), count, new)
 
 
 class Settings(unittest.TestCase):
@@ -180,9 +184,9 @@ class Looks(unittest.TestCase):
                                ("128.0.0.0/1", 1), ("0.0.0.0", 1),
                                ("10.0.0.0/8\n\tobserve = yes", 1)):
             text = f"client x {{\n\tipv4addr = {address}\n}}\n"
-            with mock.patch.object(files, "text", lambda _, it=text: it), \
-                    mock.patch.object(users, "sql", lambda _: ""):
-                self.assertEqual(len(list(looks.everybody(wanted(sql={})))), count, address)
+            with mock.patch.object(files, "text", lambda _, it=text: it):
+                self.assertEqual(len([it for it in looks.access_servers()
+                                      if it.name == "front-wrong"]), count, address)
 
 
 if __name__ == "__main__":

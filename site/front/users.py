@@ -25,6 +25,8 @@ def of(answers, of_group):
             password=password(answers.sql["password_file"]), **answers.sql))
         return
     yield of_group("users.conf", lambda old: old or clients.own("raddb/users.conf"))
+    if answers.is_own:
+        return
     yield Step(f"make {FILE}, with FreeRADIUS' tables of users",
                lambda: rows("radusergroup") is not None, lambda: sql(
                    f"BEGIN;\n{machine.text_of(places.RADIUS_USER, SCHEMA)}\nCOMMIT;\n"))

@@ -36,8 +36,7 @@ CASES = {
         [f"a {FILE} 0+60x10 600x50", f"b {FILE} 0+60x60",
          'b node_textfile_mtime_seconds{file="/others/apt.prom"} 0x60'],
         {12: "", 16: "a:Down"}),
-    "a is scraped no more": (["a radacctd_start_time_seconds 1x10 stale"],
-                             {10: "", 16: "a:Down"}),
+    "a is scraped no more": (["a radacctd_start_time_seconds 1x10 stale"], {10: "", 16: "a:Down"}),
     "nothing is scraped": ([f"{it} radacctd_start_time_seconds _x9" for it in "ab"],
                            {1: "", 5: ":Down"}),
     "two starts in an hour are work, three are a fault": (
@@ -62,8 +61,10 @@ CASES = {
     "a configuration that waits, and one that is mended": (
         ["a radacctd_config_is_current 1x9 0x50", "b radacctd_config_is_current 1x9 0x7 1x42"],
         {19: "", 25: "a:ConfigNotCurrent"}),
-    "FreeRADIUS ends on a, and is restarted on b": (
-        [f"a {UNIT % ('front', 'active')} 1x10 0x49", f"b {UNIT % ('front', 'active')} 1x30 0 1x29"],
+    "FreeRADIUS ends on a, is restarted on b, and is the site's own on c": (
+        [f"a {UNIT % ('front', 'active')} 1x10 0x49", f"b {UNIT % ('front', 'active')} 1x30 0 1x29",
+         f"c {UNIT % ('front', 'active')} 0x59",
+         'c node_systemd_unit_state{name="freeradius.service",state="active"} 1x59'],
         {9: "", 40: "a:FrontDown"}),
     "units that failed, one each minute anew, and one once": (
         [f"a {UNIT % ('night', 'failed')} 0x60 1x59",

@@ -100,6 +100,7 @@ def address(text):
 
 
 FLAG, TABLE = of(bool, "true or false"), of(dict, "a table")
+FREERADIUS = rule('true, false or "own"', lambda it: isinstance(it, bool) or it == "own")
 LIST = of(list, "a list in brackets")
 PRINTABLE = rule("a text in quotation marks, and printable",
                  lambda it: isinstance(it, str) and it.isprintable())
@@ -112,7 +113,7 @@ OF_SQL = matches("1 to 253 letters, digits or . _ : -", "[A-Za-z0-9._:][A-Za-z0-
 # The members of a file and of its tables: what each is if it is left out, and its rule. None: it
 # must be there.
 TOP = {
-    "name": ("", PRINTABLE), "freeradius": (True, FLAG),
+    "name": ("", PRINTABLE), "freeradius": (True, FREERADIUS),
     "server": ("", lambda it: one_address(it) if it != "" else it),
     "host": ("", matches("no name of a host, as wifi.example.org", f"({HOST})?")),
     "certificate": ("", PATH), "certificate_key": ("", PATH),
@@ -133,15 +134,15 @@ ACCESS_SERVER = {
                         + ", ".join(TAKEN_NAMES),
                         rf"(?!({'|'.join(TAKEN_NAMES)})$)[A-Za-z0-9_][A-Za-z0-9._-]{{0,31}}")),
     "address": (None, address), "vendor": ("other", one_of(*VENDORS)),
+    "members": ([], lambda found: [one_address(it) for it in LIST(found)]),
 }  # fmt: skip
 PAIR = {"own": (None, one_address), "other": (None, one_address), "second": (False, FLAG)}
 SQL = {"server": ("localhost", OF_SQL), "port": (5432, number(1, 65535)),
        "database": ("radius", OF_SQL), "login": ("radius", OF_SQL),
        "password_file": (None, matches("a path from the root", "/[A-Za-z0-9._/-]+"))}
 # What a member needs next to it.
-NEEDS = [("pair", "freeradius"), ("sql", "freeradius"), ("cashiers", "host"), ("host", "name"),
-         ("host", "currency"), ("certificate", "certificate_key"),
-         ("certificate_key", "certificate")]
+NEEDS = [("cashiers", "host"), ("host", "name"), ("host", "currency"),
+         ("certificate", "certificate_key"), ("certificate_key", "certificate")]
 
 
 def table(found, rules, where="the file"):
@@ -173,7 +174,7 @@ class Answers:
         self.plans, self.access_servers = (
             [table(each, rules, f"[[{name}]] number {at}") for at, each in enumerate(it[name], 1)]
             for name, rules in (("plan", PLAN), ("access_server", ACCESS_SERVER)))
-        self.has_front = it["freeradius"]
+        self.has_front, self.is_own = bool(it["freeradius"]), it["freeradius"] == "own"
         need("default" in [each["class"] for each in self.plans],
              "each site has a plan `default`: write a [[plan]] of it")
         for name, rows, key in (("plan", self.plans, "class"),
@@ -184,6 +185,8 @@ class Answers:
             need(not twice, f"two [[{name}]] have one {key}: {twice[:1]}")
         for name, needed in NEEDS:
             need(it[needed] or not it[name], f"`{name}` needs `{needed}`")
+        need(it["freeradius"] is True or not (self.pair or self.sql),
+             "`pair` and `sql` need a FreeRADIUS that setup makes: freeradius = true")
         self.test_addresses()
         for name, value in self.secrets.items():
             need(isinstance(value, str) and SECRET.fullmatch(value),

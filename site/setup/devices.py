@@ -10,15 +10,18 @@ FOLDER = f"{places.NOTES}/access-servers"
 # How often a session is reported, in minutes: a report that overdraws cuts off at the next one.
 INTERVAL = 5
 MIKROTIK = """\
-# RouterOS 7: paste this into a terminal of {name}. Hotspot; for PPP write `ppp` in its place.
-/radius add service=hotspot address={server} secret="{routeros}" timeout=3s comment=radacctd
+# RouterOS 7: paste this into a terminal of the router, without a service that it lacks.
+/radius add service=hotspot,ppp address={server} secret="{routeros}" timeout=3s comment=radacctd
 /radius incoming set accept=yes port=3799
-# Reports have this name: who overdraws is disconnected by it.
+# The router gets this name. Reports have it: who overdraws is disconnected by it.
 /system identity set name={name}
+/system ntp client set enabled=yes servers=pool.ntp.org
+# A hotspot:
 /ip hotspot profile set [find] use-radius=yes radius-accounting=yes \\
     radius-interim-update={interval}m login-by=http-pap,https
-/system ntp client set enabled=yes servers=pool.ntp.org
 /ip hotspot walled-garden ip add action=accept dst-host={host} comment=radacctd
+# PPPoE:
+/ppp aaa set use-radius=yes accounting=yes interim-update={interval}m
 """
 UNIFI = """\
 UniFi Network, for {name}:
@@ -29,7 +32,7 @@ UniFi Network, for {name}:
  5. WiFi, your network, Security: WPA2/3 Enterprise with this profile. Or Hotspot Portal,
     Authentication: RADIUS, with this profile; Disconnect Requests (CoA): on, port 3799.
     NAS ID: {name}.
- 6. Each access point is a client of its own address: let {address} cover all of them.
+ 6. Each access point reports from its own address: all are in {address}, and in `members`.
  7. Hotspot, Landing Page, Pre-Authorization Access: {host}.
 
     shared secret: {secret}
@@ -41,9 +44,8 @@ pfSense, for {name}:
  2. Services, Captive Portal, your zone. Authentication: this server, also for accounting. NAS
     Identifier: {name}.
  3. Accounting: send RADIUS accounting packets; Accounting updates: Interim.
- 4. Reauthentication: off. Its interval of updates is a minute, and cannot be set.
- 5. System, General Setup: a time server.
- 6. Allowed Hostnames, Add: {host}, both directions.
+ 4. Reauthentication: off; updates come each minute. System, General Setup: a time server.
+ 5. Allowed Hostnames, Add: {host}, both directions.
 
     shared secret: {secret}
 """
@@ -64,20 +66,16 @@ uci commit wireless; wifi reload
 OTHER = """\
 {name}, as its own manual names these:
     RADIUS server {server}, authentication port 1812, accounting port 1813
-    NAS-Identifier {name}
+    NAS-Identifier {name}; a clock set by NTP
     interim updates each {interval} minutes, gigawords on, Acct-Delay-Time on
     Disconnect-Requests (RFC 5176) from {server} at port {port}
-    a clock set by NTP
     what may be reached without a login: {host}
     shared secret: {secret}
 """
 # A line with the name of the pages is for a site that has them.
 TEXTS = {"mikrotik": MIKROTIK, "unifi": UNIFI, "pfsense": PFSENSE, "openwrt": OPENWRT}
-# The first lines without FreeRADIUS: a comment, where the text is typed.
-ALONE = """\
-# Only reports go to this machine, at port 1813: without FreeRADIUS it answers no login. Leave
-# the server of logins as it is, whatever the lines below say of one.
-"""
+# The first line without FreeRADIUS.
+ALONE = "# Only reports go to this machine: leave the server of logins as it is, whatever is said.\n"
 
 
 def routeros(text):
@@ -88,9 +86,8 @@ def routeros(text):
 
 def text_of(device, answers, secret):
     lines = TEXTS.get(device["vendor"], OTHER).splitlines(True)
-    text = "".join(it for it in lines if answers.host or "{host}" not in it)
-    if not answers.has_front:
-        text = ALONE + text
+    text = "" if answers.has_front else ALONE
+    text += "".join(it for it in lines if answers.host or "{host}" not in it)
     values = {**device, "secret": secret, "server": answers.server or "ADDRESS-OF-THIS-MACHINE",
               "host": answers.host, "interval": INTERVAL, "seconds": 60 * INTERVAL,
               "routeros": routeros(secret), "quoted": shlex.quote(secret),

@@ -150,6 +150,7 @@ BREAKS = {
     "desk-open": appended("RADACCTD_DESK_BIND=0.0.0.0\\n", "/etc/default/radacctd",
                           "systemctl restart radacctd"),
     "front-wrong 5": edited("s/observe = no/observe = yes/", SETTINGS, RESTART),
+    "cut-off": edited("/10.0.2.9/d", f"{FRONT}/clients.conf", RESTART),
     "reports-wait": waiting("waits"),
     "reports-aside": waiting("aside"),
     "nginx-wrong": ("echo 'x y' > /etc/nginx/conf.d/zz.conf", "rm /etc/nginx/conf.d/zz.conf"),
@@ -161,8 +162,7 @@ BREAKS = {
                               RELOAD),
     "certificate-ended": kept("/etc/ssl/radacctd.pem", "rm /etc/ssl/radacctd.pem"),
     "certificate-ends": kept(CERTIFICATE, f"openssl req -x509 -key {FRONT}/certs/server.key "
-                             "-days 5 "
-                             f"-subj /CN=x -out {CERTIFICATE}", RESTART),
+                             f"-days 5 -subj /CN=x -out {CERTIFICATE}", RESTART),
     "certificate-old": kept("/etc/ssl/radacctd.pem", "openssl req -x509 -days 300 -subj "
                             f"/CN={start_site.HOST} -addext subjectAltName=DNS:{start_site.HOST} "
                             "-key /etc/ssl/private/radacctd.key -out /etc/ssl/radacctd.pem"),

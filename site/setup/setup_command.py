@@ -29,11 +29,12 @@ LOCK = "/run/radacctd-setup.lock"
 SAMPLE = """\
 name = "Hotel Example"              # on pages and printed vouchers
 server = "10.0.0.5"                 # where access servers reach this machine
-host = "accounts.example.org"       # the name of the pages; without it there are none
+host = "accounts.example.org"       # the pages' name, in your DNS; without it there are none
 currency = "EUR"
 decimals = 2
 cashiers = ["anna", "ben"]
 # operators = ["anna"]              # of these, who may do all at the pages
+# freeradius = "own"                # one of yours serves here, and stays: docs/CAMPUS.md
 # certificate = "/etc/letsencrypt/live/accounts.example.org/fullchain.pem"
 # certificate_key = "/etc/letsencrypt/live/accounts.example.org/privkey.pem"
 
@@ -47,14 +48,14 @@ unit = 1
 name = "lobby"
 address = "10.0.0.1"
 vendor = "mikrotik"                 # or unifi, pfsense, openwrt, aruba, cisco, other
+# members = ["10.0.0.2", "10.0.0.3"]  # if `address` is a network: its access points, to be cut off
 
 # Users of a PostgreSQL database with FreeRADIUS' own tables, in place of a file.
 # [sql]
 # server = "db.example.org"
 # password_file = "/root/radius-password"
 
-# Two machines that share each other's reports, on a link with nobody else in it. The set-up of this
-# one writes a file of answers for the other one.
+# Two machines that share each other's reports, on a link with nobody else in it.
 # [pair]
 # own = "10.9.0.5"
 # other = "10.9.0.6"

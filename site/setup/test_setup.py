@@ -80,9 +80,10 @@ class Answers(unittest.TestCase):
     def test_what_needs_something_else(self):
         one = {"access_server": [LOBBY], "freeradius": False}
         for found in ({"pair": {"own": "10.9.0.5", "other": "10.9.0.5"}}, one, {"sql": {}},
-                      {**one, "server": "fd00::5"}, {"operators": ["anna"]},
+                      {**one, "server": "fd00::5"}, {"operators": ["anna"]}, {"freeradius": 1},
+                      {"freeradius": "own", "sql": {"password_file": "/x"}},
                       {"host": "a.example.org"}, {"access_server": [LOBBY, LOBBY]},
-                      {"access_server": [{**LOBBY, "address": "0.0.0.0/0"}]}):
+                      {"access_server": [{**LOBBY, "members": ["10.0.0.0/24"]}]}):
             self.wrong(**found)
 
     def read(self, text, mode=0o600):
@@ -134,11 +135,10 @@ class Answers(unittest.TestCase):
         self.assertEqual(vars(answers.Answers(found["answers"])), vars(one))
 
     def test_what_to_type_has_the_secret_as_the_device_reads_it(self):
-        one = {**LOBBY, "vendor": "mikrotik"}
         for vendor, text in (("mikrotik", 'a\\22b'), ("openwrt", "'a\"b'"), ("cisco", "1700")):
-            found = devices.text_of({**one, "vendor": vendor}, hotel(), 'a"b')
+            found = devices.text_of({**LOBBY, "vendor": vendor}, hotel(), 'a"b')
             self.assertIn(text, found)
-        self.assertNotIn("host=", devices.text_of(one, wanted(), "x"))
+        self.assertNotIn("host=", devices.text_of({**LOBBY, "vendor": "mikrotik"}, wanted(), "x"))
 
 
 class Configuration(Folder):
