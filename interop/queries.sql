@@ -1,5 +1,5 @@
--- Ten queries over a book of radacctd. Give them to a copy of it:
---     sqlite3 -readonly /var/backups/radacctd-monday/book < queries.sql
+-- Queries over a book of radacctd. Give them to a copy of a copy of the site:
+--     sqlite3 -readonly /root/audited/book < queries.sql
 -- Days and months are those of UTC. For another zone write 'unixepoch', 'localtime' in the place of
 -- 'unixepoch', and set TZ. A session counts wholly in the month of its last report, and a line of
 -- sessions that were carried forward in that of its last run. To leave lines out of a query over
@@ -47,3 +47,7 @@ SELECT CAST(class AS TEXT), count(*), sum(price) FROM charge
 -- 10: access servers, the silent ones first
 SELECT client, count(*), sum(state = 0), datetime(max(last_seen), 'unixepoch')
   FROM session GROUP BY 1 ORDER BY 4;
+-- 11: who had the address 10.0.0.7, in hex, at a moment
+SELECT CAST(account AS TEXT), client, CAST(calling AS TEXT), datetime(last_seen, 'unixepoch')
+  FROM session WHERE framed = x'0A000007'
+   AND unixepoch('2026-11-02 00:00:00') BETWEEN first_seen AND last_seen;
