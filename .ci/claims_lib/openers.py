@@ -71,16 +71,36 @@ RULES = (
 # A proof that unfolds one of these says of a file whatever it likes.
 SEALED = re.compile(r"\bunfolding\b[^\n]*\b(?:WasPut|WasRead|WasSent)\b")
 
-# How many calls of what binds sockets, or of what calls that, stand in each source: no second one.
-BINDS = re.compile(r"\b\w+::bind\w*\(|(?<!fn )\b(?:bound|bind_reports)\(")
-BINDERS = {
-    "crates/acct_net/src/datagrams.rt": 2,
-    "crates/acct_net/src/desk.rt": 1,
-    "crates/acct_net/src/sockets.rt": 1,
-    "crates/acct_program_explain/src/socket_faults.rt": 2,
-    "crates/acct_program_serving/src/sockets_server.rt": 2,
-    "crates/acct_program_jobs/src/serving.rt": 1,
-}
+# How many calls of some kinds stand in each source: no second one, and none elsewhere. A clause says
+# what is bound, put or sent, and of none that nothing else is.
+NET = "crates/acct_net/src/"
+COUNTED = (
+    (
+        "binds of sockets",
+        re.compile(r"\b\w+::bind\w*\(|(?<!fn )\b(?:bound|bind_reports)\("),
+        {
+            DATAGRAMS: 2,
+            NET + "desk.rt": 1,
+            NET + "sockets.rt": 1,
+            "crates/acct_program_explain/src/socket_faults.rt": 2,
+            "crates/acct_program_serving/src/sockets_server.rt": 2,
+            "crates/acct_program_jobs/src/serving.rt": 1,
+        },
+    ),
+    (
+        "calls on the way of a datagram that is sent",
+        re.compile(r"\bsend_to\(|(?<!fn )\bsend_waiting\(|\b(?:socket|event_loop)\.send\("
+                   r"|\bdatagrams\.reply\("),
+        {DATAGRAMS: 4, NET + "event_loop.rt": 1, NET + "sockets.rt": 1},
+    ),
+    (
+        "files that are rewritten from time to time",
+        re.compile(r"\bFreshFile::new\("),
+        {COMMANDS + "balances_file.rt": 1, COMMANDS + "status_file.rt": 1},
+    ),
+)
+# What is known of files and of sent octets is sealed in these, once each.
+SEALS = re.compile(r"^(\w+ pub) Was(?:Put|Read|Sent)\b", re.M)
 
 # What a source may name of std where files and processes are. Else all of it is only for the two.
 SYSTEM = re.compile(r"std(?:$| |::\*|::(?:fs|rt|process|os)\b)")
@@ -201,10 +221,11 @@ def found_in(path, text):
     for name, at in given_in(text):
         if name not in GIVEN.get(path, "").split():
             yield at, f"{name}(.. HostRuntime ..)", "the runtime itself"
-    binds = list(BINDS.finditer(text))
-    if len(binds) != BINDERS.get(path, 0):
-        at = binds[-1].start() if binds else 0
-        yield at, f"{len(binds)} calls", f"other than {BINDERS.get(path, 0)} binds of sockets"
+    for what, calls, sources in COUNTED:
+        found, wanted = list(calls.finditer(text)), sources.get(path, 0)
+        if len(found) != wanted:
+            at = found[-1].start() if found else 0
+            yield at, f"{len(found)} calls", f"other than {wanted} {what}"
 
 
 def function_in(text, name):
@@ -249,10 +270,16 @@ def check_sealed(checker):
         if len(re.findall(r"\bPuts::\w+\)", text_of(path))) != 1:
             checker.page = path
             checker.find(1, "it unfolds what is known of a file other than once")
+    seals = []
     for path in checker.tree.files:
-        if path.startswith("crates/") and path.endswith(".antt") and SEALED.search(text_of(path)):
-            checker.page = path
-            checker.find(1, "its proof unfolds what is known of a file")
+        if path.startswith("crates/") and path.endswith(".antt"):
+            text = text_of(path)
+            seals += SEALS.findall(text)
+            if SEALED.search(text):
+                checker.page = path
+                checker.find(1, "its proof unfolds what is known of a file")
+    if seals != ["unfoldable pub"] * 3:
+        checker.find(1, f"WasPut, WasRead and WasSent are sealed once each, not {seals}")
 
 
 def check(checker):
