@@ -104,20 +104,19 @@ class Proved(OneLab):
 
     def test_certificates(self):
         it = self.lab
+        shown = lambda cert, name="al": stamps(it.eap("TLS", name, password=None, cert=cert))
         it.user("stranger", Cleartext_Password="x")
         it.users.execute("DELETE FROM radusergroup WHERE username = 'stranger'")
         it.user("stranger", "up")
-        self.assertEqual(
-            stamps(it.eap("TLS", "somebody-else", password=None, cert="al")), "gold;;al"
-        )
-        self.assertEqual(
-            stamps(it.eap("TLS", "al", password=None, cert="stranger")), "up;;stranger"
-        )
+        self.assertEqual(shown("al", "somebody-else"), "gold;;al")
+        self.assertEqual(shown("stranger"), "up;;stranger")
         # One without a name is nobody's.
-        self.assertEqual(stamps(it.eap("TLS", "al", password=None, cert="")), "FAILURE")
+        self.assertEqual(shown(""), "FAILURE")
+        it.user("stranger", Auth_Type="Reject")
+        self.assertEqual(shown("stranger"), "FAILURE")
         it.users.execute("DELETE FROM radcheck WHERE username = 'stranger'")
         it.users.execute("DELETE FROM radusergroup WHERE username = 'stranger'")
-        self.assertEqual(stamps(it.eap("TLS", "al", password=None, cert="stranger")), "FAILURE")
+        self.assertEqual(shown("stranger"), "FAILURE")
 
     def test_no_certificate_within_a_tunnel(self):
         for outer in ("al", "anon"):
