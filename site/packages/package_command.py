@@ -49,6 +49,7 @@ def changes_of(words):
     if words.plan is not None:
         if why := names.why_not(words.plan):
             raise Failed(f"{words.plan} is no plan: {why}")
+        need_plan(words.plan)
         found["plan"] = words.plan
     if words.sum is not None:
         found["sum"] = 0 if words.sum == "no" else site.units(words.sum)
@@ -81,9 +82,6 @@ def show(db):
 
 
 def main(words):
-    # The plans are read as whoever gave the command.
-    if words.act == "put" and words.plan is not None:
-        need_plan(words.plan)
     places.become_user()
     with store.opened() as db:
         if words.act == "put":
