@@ -8,15 +8,15 @@ from radacctd_site.core import Failed, files, machine
 
 # Prints a store of SQLite that is sound, with the rows of its log, while its user writes on.
 PRINT = """
-import sqlite3, sys
+import os, sqlite3, sys
+assert os.path.isfile(sys.argv[1]), "it is no file"
 new = sqlite3.connect(":memory:")
 sqlite3.connect(f"file:{sys.argv[1]}?mode=ro", uri=True, timeout=60).backup(new)
 said = new.execute("PRAGMA integrity_check").fetchone()[0]
-if said != "ok":
-    sys.exit(f"PRAGMA integrity_check says {said}")
+assert said == "ok", f"PRAGMA integrity_check says {said}"
 sys.stdout.buffer.write(new.serialize())
 """
-WRITE = 'umask 077; exec cat >"$1"'
+WRITE = 'umask 077; rm -f "$1"; exec cat >"$1"'
 # A file loses its name first and gets it last: without it nothing takes a log for a book.
 RENAME = """
 set -e; path=$1 date=$2; shift 2

@@ -285,14 +285,22 @@ class Attacked(Site):
             self.assertNotIn(b"root's own", Path(f"{taking.NEW}/{it}").read_bytes(), it)
 
     def test_nor_does_a_pipe_or_a_second_name(self):
-        path = of_core.BOOK
-        os.rename(path, f"{path}.was")
-        for make in (os.mkfifo, lambda it: os.link(self.secret, it),
-                     lambda it: os.symlink(self.secret, it)):
-            make(path)
-            self.assertRaises((Failed, OSError), taking.make, 0)
-            os.remove(path)
-            shutil.rmtree(taking.NEW)
+        for path in (of_core.BOOK, f"{self.top}/site/site.db"):
+            os.rename(path, f"{path}.was")
+            for make in (os.mkfifo, lambda it: os.link(self.secret, it),
+                         lambda it: os.symlink(self.secret, it)):
+                make(path)
+                with machine.within(20):
+                    self.assertRaisesRegex((Failed, OSError), "^(?!it took)", taking.make, 0)
+                os.remove(path)
+            os.rename(f"{path}.was", path)
+
+    def test_nor_keeps_a_pipe_a_restore_waiting(self):
+        os.mkfifo(f"{of_core.BOOK}.new")
+        self.give(f"{of_core.BOOK}.new", USER)
+        with machine.within(20):
+            owners.put(of_core.BOOK, USER, "1", {"": self.secret})
+        self.assertEqual(Path(of_core.BOOK).read_bytes(), Path(self.secret).read_bytes())
 
     def test_nor_changes_a_restore_a_file_of_roots(self):
         part = f"{self.top}/part"
