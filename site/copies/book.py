@@ -53,8 +53,7 @@ def marks(found):
 
 def clone(file, to):
     """Copies an open file; where the file system can, at once and without its space."""
-    path = f"/proc/self/fd/{file.fileno()}"
-    done = subprocess.run(["cp", "--reflink=auto", path, to], pass_fds=[file.fileno()],
+    done = subprocess.run(["cp", "--reflink=auto", "/proc/self/fd/0", to], stdin=file,
                           stderr=subprocess.PIPE, text=True)
     if done.returncode:
         raise Failed(f"the book cannot be copied: {done.stderr.strip()}")

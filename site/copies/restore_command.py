@@ -44,12 +44,13 @@ def restore(folder, is_sure, is_book_alone=False):
         raise Failed("a set-up is going on")
     date = time.strftime("%Y%m%d-%H%M%S")
     lost = f"{of_kit.BOOK} is as it was on {when}. What came after that is lost"
+    # A copy that goes on starts the server at its end: so it is stopped before.
+    for it in ("radacctd-copy.service", "radacctd.service" if is_book_alone else "radacctd*"):
+        machine.given(["systemctl", "stop", it])
     if is_book_alone:
-        machine.given(["systemctl", "stop", "radacctd.service"])
         put_book(folder, date)
         print(f"{lost}. Now: radacctd plans, and systemctl start radacctd")
         return 0
-    machine.given(["systemctl", "stop", "radacctd*"])
     packages = packages_of(folder)
     steps.packages(packages or []).finish()
     # The users and groups that have the files.

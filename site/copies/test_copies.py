@@ -362,7 +362,8 @@ class Restoring(Site):
         written(of_core.BOOK, "another", USER)
         self.calls.clear()
         self.assertEqual(self.restore(path, is_book_alone=True), 0)
-        self.assertEqual((self.sales(), self.calls), ([1, 2], [["stop", "radacctd.service"]]))
+        self.assertEqual(self.sales(), [1, 2])
+        self.assertEqual(self.calls, [["stop", f"radacctd{it}.service"] for it in ("-copy", "")])
         self.assertEqual(Path(of_core.BOOK).read_bytes(), Path(f"{path}/book").read_bytes())
 
     def test_a_damaged_copy_changes_nothing(self):
