@@ -100,8 +100,8 @@ def sell(db, book, found):
 
 
 def again(db, book, day):
-    """Sends again what the book had, for one that is an older copy."""
-    rows = db.execute("SELECT * FROM act WHERE begun >= ? AND answer IN ('new', 'repeat') "
+    """Sends again what the book took since a day, for one that is an older copy."""
+    rows = db.execute("SELECT * FROM act WHERE answered >= ? AND answer IN ('new', 'repeat') "
                       "ORDER BY begun, rowid", (acts.second_of(day),)).fetchall()
     counts = collections.Counter()
     for it in rows:
