@@ -21,7 +21,7 @@ class Front:
     def __init__(self, box):
         self.box = box
         text = box.must(f"cat {start_site.FRONT}/clients.conf")
-        self.secret = re.search(r"client radacctd-setup \{\n.*\n\tsecret = (\S+)", text)[1]
+        self.secret = re.search(r"client radacctd-setup \{\n.*\n\tsecret = '(\S+)'", text)[1]
         key = re.search(r"\tkey = (\S+)", box.must(f"cat {start_site.FRONT}/settings.conf"))[1]
         said = box.beside(["curl", "-s", "-H", f"Desk-Key: {key}",
                            "http://127.0.0.1:8066/logins/al/default"])[1]

@@ -21,7 +21,7 @@ CUT_PORT, CUT_PORTS = 3799, {"cisco": 1700}
 CLIENT = """
 client {name} {{
 	ipaddr = {address}
-	secret = {secret}
+	secret = '{secret}'
 	quota = {quota}, login = {login}, pays = yes, cut = {cut}{named}
 }}
 """

@@ -30,9 +30,9 @@ class Clients(unittest.TestCase):
         mine = text.replace("pays = yes", "pays = no") + "\n# mine\n"
         mine = mine.replace("client lobby {", '\tclient "lobby" { # by hand')
         roof = {"name": "roof", "address": "10.0.1.0/24", "vendor": "other"}
-        more = clients.written(mine, wanted(LOBBY, roof))
+        more = clients.written(mine, wanted(LOBBY, roof, secrets={"client-roof": "a, b #c"}))
         self.assertTrue(more.startswith(mine))
-        self.assertIn("\tipaddr = 10.0.1.0/24\n", more)
+        self.assertIn("\tipaddr = 10.0.1.0/24\n\tsecret = 'a, b #c'\n", more)
 
     def test_another_address_of_a_client_is_told(self):
         text = clients.written(None, wanted(LOBBY))

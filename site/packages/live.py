@@ -268,7 +268,7 @@ class Box:
         start_site.prepare(box, folder)
         start_site.set_up(box)
         clients = box.must(f"cat {start_site.FRONT}/clients.conf")
-        self.secret = re.search(r"client radacctd-setup \{\n.*\n\tsecret = (\S+)", clients)[1]
+        self.secret = re.search(r"client radacctd-setup \{\n.*\n\tsecret = '(\S+)'", clients)[1]
 
     def logs_in(self, code):
         pairs = f"User-Name={code},User-Password={code},Packet-Src-IP-Address=127.0.0.8"

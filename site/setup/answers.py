@@ -11,8 +11,8 @@ from radacctd_site.core import Failed, names, people
 from radacctd_site.core.money import MOST_DECIMALS
 
 VENDORS = ("mikrotik", "unifi", "pfsense", "openwrt", "aruba", "cisco", "other")
-# What stands between marks of one kind in each file.
-SECRET = re.compile(r"""(?=[^']*\Z|[^"$]*\Z)[^\\\x00-\x1f]{1,128}""")
+# What stands between marks in each file, as it is.
+SECRET = re.compile(r"""[^'"\\\x00-\x1f]{1,128}""")
 # Names and addresses that the set-up has itself.
 TAKEN_NAMES = ("front", "other", "books", "radacctd-setup")
 TAKEN_ADDRESSES = ("127.0.0.1", "127.0.0.8", "127.0.0.9", "::1")
