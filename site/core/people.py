@@ -4,12 +4,14 @@ A session is a random token, of which site.db has the digest: it ends by a logou
 password, and after twelve hours. A password is kept by scrypt.
 """
 
+import contextlib
 import hashlib
 import hmac
 import ipaddress
 import os
 import re
 import secrets
+import sqlite3
 import time
 
 from radacctd_site.core import Failed
@@ -69,11 +71,9 @@ def is_password(db, name, password):
 
 def network_of(address):
     """An address as it is counted: of IPv6 the network that one customer has."""
-    try:
-        found = ipaddress.ip_address(address)
-    except ValueError:
-        return address
-    return str(ipaddress.ip_network((found, 64), strict=False)) if found.version == 6 else address
+    with contextlib.suppress(ValueError):
+        return str(ipaddress.ip_network((ipaddress.IPv6Address(address), 64), strict=False))
+    return address
 
 
 def may_try(db, kind, *whats):
@@ -90,11 +90,10 @@ def may_try(db, kind, *whats):
 
 
 def forget_try(db, kind, *whats):
-    """Takes a try back that was right."""
-    with db:
-        for it in whats:
-            db.execute("DELETE FROM try WHERE rowid = (SELECT max(rowid) FROM try WHERE what = ?)",
-                       (f"{kind} {it}",))
+    """Takes a try back that was right. One that stays is no fault of what was done meanwhile."""
+    with contextlib.suppress(sqlite3.Error), db:
+        db.executemany("DELETE FROM try WHERE rowid = (SELECT max(rowid) FROM try WHERE what = ?)",
+                       [(f"{kind} {it}",) for it in whats])
 
 
 def logged_in(db, name, password, address):

@@ -211,16 +211,16 @@ class GuestsPage(Sheet):
         other = Browser(self.app, address="192.0.2.9")
         self.assertEqual([self.sure(other, "al", it) for it in self.codes * 2], [200] * 8)
 
-    def test_if_site_db_cannot_be_written_nothing_is_redeemed(self):
+    def test_only_if_site_db_cannot_be_written_before_nothing_was_sent(self):
         browser = Browser(self.app)
-        browser.get("/redeem/")
         with contextlib.closing(sqlite3.connect(places.DATABASE)) as other, \
                 mock.patch.object(store, "PATIENCE", 0.1), \
                 contextlib.redirect_stderr(io.StringIO()):
-            other.execute("BEGIN IMMEDIATE")
-            self.assertEqual(self.sure(browser, "al", self.codes[0]), 503)
+            lock = lambda *_: other.execute("BEGIN IMMEDIATE") and desk.NEW
+            self.book.credit = mock.Mock(side_effect=lock)
+            found = [self.sure(browser, "al", it) for it in self.codes[:2]]
+        self.assertEqual((found, self.book.credit.call_count), ([200, 503], 1))
         self.assertIn("nothing was sent", browser.text)
-        self.assertEqual(self.book.asked, [])
 
 
 class OperatorsPage(Sheet):
