@@ -17,7 +17,7 @@ import urllib.request
 MINUTE, HOUR, LONGEST = 60, 3600, 40
 USER_NAME, STATION, SESSION, EVENT_TIME = 1, 31, 44, 55
 # A client of FreeRADIUS: its name, and what is in it.
-BLOCK = re.compile(r'(?ms)^[ \t]*client\s+"?([^\s"{]+)"?\s*\{(.*?)^[ \t]*\}')
+BLOCK = re.compile(r'(?ms)^[ \t]*client\s+"?([^\s"{]+)"?\s*\{([^\n{}#]*|.*?^[ \t]*)\}')
 
 
 def value(text, name):

@@ -61,8 +61,8 @@ class CutOff(unittest.TestCase):
         text = clients.written(None, wanted(
             {"name": "attic", "address": "10.0.2.0/24", "vendor": "other", "members": ["10.0.2.1",
              "10.0.2.2"]}, {"name": "hall", "address": "10.0.0.3", "vendor": "cisco"}))
-        by_hand = '\nclient six {\n\tipv6addr = fd00::1\n\tcut = 3799, nas = "roof 1"\n}\n'
-        found = cut.servers(text + by_hand)
+        by_hand = 'client six { ipv6addr = fd00::1, cut = 3799, nas = "roof 1" }\n'
+        found = cut.servers(by_hand + text)
         self.assertEqual({name: [it["address"] for it in all_] for name, all_ in found.items()}, {
             b"attic": ["10.0.2.1:3799", "10.0.2.2:3799"], b"\n\0\2\1": ["10.0.2.1:3799"],
             b"\n\0\2\2": ["10.0.2.2:3799"], b"hall": ["10.0.0.3:1700"],
