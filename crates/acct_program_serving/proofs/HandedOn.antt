@@ -1,5 +1,5 @@
 -- A run over an exchange is one over any other that counts and records the same.
-use Rattle.std.specs.Prelude.{◌≡◌, ◌-◌, ⊤, ℕ, Bool, List, [], ◌∷◌, Option, Some, None}
+use Rattle.std.specs.Prelude.{◌≡◌, ◌-◌, ⊤, ℕ, List, [], ◌∷◌, Option, Some, None}
 use Rattle.std.proofs.Common.{◌∙◌, subst, sym, ap}
 use Rattle.acct_book.specs.declared.book.Book as book
 use Rattle.acct_book.specs.Content.{Content}

@@ -1,5 +1,5 @@
 -- The promise of `serve` in one statement: however it ran and ended, every balance is right.
-use Rattle.std.specs.Prelude.{ℕ, Bool, List, [], Option, Result}
+use Rattle.std.specs.Prelude.{ℕ, List, [], Option, Result}
 use Rattle.std.proofs.Common.{inl, inr}
 use Rattle.acct_model.specs.History.{History}
 use Rattle.acct_book.specs.declared.book.Book as book

@@ -121,7 +121,7 @@ SlicesStand {B} b = (plans : List Plan) (slices : List Slice) (old new : B)
     → EachStandsAfter plans history [] slices
 
 -- The rounds after each of these slices, from first to last. None but the last ended the run. If the
--- book is open, they showed what it had then. Of a slice that was to be silent nobody was heard.
+-- book is open, they showed what it had then. In a slice that was to be silent nobody was heard.
 abbrev pub GoRounds : {R : Type 0} → rounds.Ghosts R → Type 0 → R → List Slice → R → Type 0
 GoRounds r is_open first [] last = first ≡ last
 GoRounds r is_open first (slice ∷ later) last =

@@ -1,4 +1,4 @@
-use Rattle.std.proofs.Common.{inl, refl, subst, arith, rules}
+use Rattle.std.proofs.Common.{inl, refl, subst, arith}
 use Rattle.acct_desk.specs.declared.framing.Reach.{Reach}
 use Rattle.acct_desk.specs.Request.{IsExtent}
 use Rattle.acct_desk.proofs.ReadingLemmas.{partial_stays, complete_stays, from_partial}

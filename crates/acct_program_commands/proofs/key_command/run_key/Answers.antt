@@ -1,6 +1,5 @@
-use Rattle.std.proofs.Common.{rules, refl, subst, ◌≡◌, Some, ◌++◌, ◌∷◌, []}
+use Rattle.std.proofs.Common.{rules, refl, ◌++◌, ◌∷◌, []}
 use Rattle.std.specs.Prelude.{string_bytes}
-use Rattle.acct_desk.specs.SignedKeys.{made_key}
 use Rattle.acct_program_commands.proofs.key_command.run_key.Goals as goal
 
 pub returns-clause-prints : goal.returns-clause-prints
