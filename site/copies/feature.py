@@ -5,7 +5,7 @@ COMMANDS = {
     "restore": ("puts a copy back, on this machine or an empty one", "restore_command"),
 }
 EACH_NIGHT = "copy_command:now"
-SETUP, LOOKS = "setup", "looks"
+SETUP = LOOKS = "looks"
 WARNINGS = {
     "copy-old": "the last copy is older than 36 hours, or there is none",
     "copy-bad": "a night's copy was refused, or lacks its sums, or none can be written",

@@ -1,13 +1,22 @@
-"""What no step sees of the night's copies: how old the last one is, and whether it was refused."""
+"""The first copy; and of the night's what no step sees: how old the last is, and if it was refused."""
 
 import os
 import time
 
-from radacctd_site.core.steps import Fault
+from radacctd_site.core.steps import Command, Fault
 from radacctd_site.copies import kept, places
 
 OLDEST = 36 * 3600
 NOW = "radacctl copy"
+
+
+def tries(*_):
+    """Until there is a copy, a lost disk loses all."""
+    copy = Command("copy the site", lambda: bool(places.names()), "systemctl", "start",
+                   "radacctd-copy.service")
+    if not copy.holds():
+        copy.do()
+        yield f"a copy of the site is in {places.FOLDER}"
 
 
 def look_at(*_):

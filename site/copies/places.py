@@ -22,17 +22,9 @@ STORES = {
 }
 # What lies in folders that only root may write: configuration, secrets, certificates, notes of the
 # set-up.
-ROOTS = [
-    "/etc/radacctd*",
-    "/etc/default/radacctd*",
-    "/etc/systemd/system/radacctd*",
-    "/etc/sysctl.d/radacctd*",
-    "/etc/nginx/conf.d/radacctd*",
-    "/etc/ssl/radacctd.pem",
-    "/etc/ssl/private/radacctd.key",
-    "/etc/letsencrypt",
-    places.NOTES,
-]
+ROOTS = ["/etc/radacctd*", "/etc/default/radacctd*", "/etc/systemd/system/radacctd*",
+         "/etc/sysctl.d/radacctd*", "/etc/nginx/conf.d/radacctd*", "/etc/ssl/radacctd.pem",
+         "/etc/ssl/private/radacctd.key", "/etc/letsencrypt", places.NOTES]
 
 
 def roots():

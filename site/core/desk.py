@@ -17,12 +17,8 @@ LONGEST_LIST = 1 << 26
 NEW, REPEAT, DIFFERS, LIMIT, NO_KEY = "new", "repeat", "differs", "limit", "no key"
 # The book could not say, or a proxy before it; and what is no answer of a desk.
 AWAY, STRANGE = "away", "strange"
-ANSWERS = {
-    (201, "result", "new"): NEW,
-    (200, "result", "repeat"): REPEAT,
-    (409, "error", "voucher differs"): DIFFERS,
-    (422, "error", "balance limit"): LIMIT,
-}
+ANSWERS = {(201, "result", "new"): NEW, (200, "result", "repeat"): REPEAT,
+           (409, "error", "voucher differs"): DIFFERS, (422, "error", "balance limit"): LIMIT}
 
 
 def meaning(status, said):

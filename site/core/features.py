@@ -17,6 +17,7 @@ Nothing else names a feature, so one whose folder is removed is gone. A feature.
                config), units(answers) and tries(answers, config)
     LOOKS      what no step sees: a module that has look_at(answers, config)
     CRITICAL, WARNINGS  the faults that these name, with what each means
+    NOTES      what they name besides, and is no fault of the site
 """
 
 import collections
@@ -57,14 +58,12 @@ def modules(member):
 
 def meanings(member):
     """What each fault means, by its name: those that harm now, or those that wait."""
-    return {name: text for it in features().values()
-            for name, text in getattr(it, member, {}).items()}
+    return {name: text for it in features().values() for name, text in getattr(it, member, {}).items()}
 
 
 def commands():
     """Each command: what it does, and the name of its module."""
-    return {name: (text, f"{NAME}.{feature}.{module}")
-            for feature, it in features().items()
+    return {name: (text, f"{NAME}.{feature}.{module}") for feature, it in features().items()
             for name, (text, module) in getattr(it, "COMMANDS", {}).items()}
 
 

@@ -19,13 +19,6 @@ def arguments(it):
     it.add_argument("--csv", action="store_true", help="print each sale as a line of CSV")
 
 
-def csv_of(rows, site):
-    return names.csv_of(COLUMNS, [
-        (time.strftime("%Y-%m-%d %H:%M:%S", time.localtime(it["moment"])), it["number"],
-         names.readable(it["account"]), it["kind"], it["who"], site.plain(it["sum"]),
-         site.plain(it["paid"]), acts.state_of(it)) for it in rows])
-
-
 def main(words):
     site = money.of_site(places.SETTINGS)
     places.become_user()
@@ -33,7 +26,10 @@ def main(words):
         rows = acts.of_days(db, words.first, words.last)
         days = acts.by_day(db, words.first, words.last)
     if words.csv:
-        print(csv_of(rows, site), end="")
+        print(names.csv_of(COLUMNS, [
+            (time.strftime("%Y-%m-%d %H:%M:%S", time.localtime(it["moment"])), it["number"],
+             names.readable(it["account"]), it["kind"], it["who"], site.plain(it["sum"]),
+             site.plain(it["paid"]), acts.state_of(it)) for it in rows]), end="")
         return 0
     for it in days:
         sold, back, net = map(site.shown, (it["sold"], -it["back"], it["net"]))

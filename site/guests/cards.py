@@ -47,8 +47,7 @@ def change(visit):
             question=text("%(account)s has a card of %(moment)s. A new one ends it.",
                           account=account, moment=visit.moment(had["made"])),
             more=[text("Each stay has an account of its own: is it this guest's?")],
-            fields={"account": account}, yes=text("Make a card"), no=text("Keep it"),
-            back="/card/")
+            fields={"account": account}, yes=text("Make a card"), no=text("Keep it"), back="/card/")
     key, url = new(visit.db, account), places.settings()["url"].rstrip("/")
     return visit.page("guests/card.html", account=account, key=key, url=url,
                       code=paper.qr(f"{url}/?k={key}", border=4))

@@ -1,4 +1,4 @@
 """What two machines that share reports add."""
 
-SETUP, LOOKS = "setup", "looks"
+SETUP = LOOKS = "setup"
 WARNINGS = {"pair-waits": "reports wait for the other machine"}

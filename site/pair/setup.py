@@ -1,11 +1,11 @@
-"""The steps to one machine of a pair, and the file of answers for the other one."""
+"""The steps to one machine of a pair, the file of answers for the other one, and its look."""
 
 import hashlib
 import json
 import os
 import re
 
-from radacctd_site.core import Failed, book, files as on_disk, places, steps
+from radacctd_site.core import Failed, book, files as on_disk, looks, places, steps
 from radacctd_site.core.steps import File
 
 HERE = os.path.dirname(os.path.realpath(__file__))
@@ -33,6 +33,14 @@ def files(answers, config):
     yield steps.folder_of(places.RADIUS_USER, "/var/lib/radacctd-front/other")
     if not answers.secrets and not answers.pair["second"]:
         yield Once(OTHER, lambda _: text(answers, {**config.secrets(), "pair": secret}), 0o600)
+
+
+def look_at(answers, _):
+    """What no step sees: reports that wait for the other machine."""
+    if answers.pair:
+        yield from looks.waits("/var/lib/radacctd-front/other", "pair-waits", "the other machine",
+                               "start it, or look at the way to it: journalctl -u radacctd-front "
+                               "-n 20")
 
 
 def own(name):

@@ -9,7 +9,7 @@ from unittest import mock
 
 from radacctd_site.core import Failed, book, looks as of_core
 from radacctd_site.core.test_client import PLAN, answers
-from radacctd_site.pair import looks, setup
+from radacctd_site.pair import setup
 
 
 def wanted(**more):
@@ -62,7 +62,7 @@ class Pair(unittest.TestCase):
         for ago, count in ((None, 0), (60, 0), (600, 1)):
             oldest = None if ago is None else time.time() - ago
             with mock.patch.object(of_core, "oldest_kept", lambda _, it=oldest: it):
-                self.assertEqual(len(list(looks.look_at(wanted(), None))), count)
+                self.assertEqual(len(list(setup.look_at(wanted(), None))), count)
 
 
 if __name__ == "__main__":

@@ -15,11 +15,9 @@ LEAST_PART, LEAST_OCTETS = 0.05, 1 << 30
 def seen():
     yield from failed()
     yield from clock()
-    devices = {}
-    for path in (places.STATE, "/etc", places.BACKUPS, "/var/log", "/var/lib/radacctd-site"):
-        if os.path.isdir(path):
-            devices.setdefault(os.stat(path).st_dev, path)
-    for path in devices.values():
+    # Of those on one disk the last one is named.
+    paths = ("/var/lib/radacctd-site", "/var/log", places.BACKUPS, "/etc", places.STATE)
+    for path in {os.stat(it).st_dev: it for it in paths if os.path.isdir(it)}.values():
         yield from disk(path)
 
 

@@ -105,16 +105,14 @@ def withdraw(visit):
     new, repeat, spent, rest = vouchers.send(db, places.book(), ended[:AT_ONCE])
     return sheets(visit, visit.text(
         "Withdrawn: %(count)s codes. %(spent)s of them were spent before. %(rest)s are sent to the "
-        "book within a minute.", count=new + repeat, spent=spent,
-        rest=rest + len(ended[AT_ONCE:])))
+        "book within a minute.", count=new + repeat, spent=spent, rest=rest + len(ended[AT_ONCE:])))
 
 
 def values(db, sheet):
     """What the page of a sheet has."""
     url = places.settings()["url"].rstrip("/") + "/redeem/"
     return {"codes": vouchers.codes_of(db, sheet), "name": sheet, "url": url,
-            "qr": lambda code: paper.qr(f"{url}?c={code}"),
-            "money": money.of_site(places.SETTINGS)}
+            "qr": lambda code: paper.qr(f"{url}?c={code}"), "money": money.of_site(places.SETTINGS)}
 
 
 def sheet(visit, sheet):

@@ -77,10 +77,9 @@ def end(db, found, who):
     """Ends codes: from now on none of them is redeemed here. Returns what is to be sent."""
     ended = [Act(f"W-{it}", NOBODY, 1, WITHDRAW, who, 0) for it in sorted(found)]
     with db:
-        db.executemany(
-            "INSERT INTO code VALUES (?, 0, '', ?) ON CONFLICT (code) DO UPDATE "
-            "SET withdrawn = coalesce(withdrawn, excluded.withdrawn)",
-            [(it, int(time.time())) for it in found])
+        db.executemany("INSERT INTO code VALUES (?, 0, '', ?) ON CONFLICT (code) DO UPDATE "
+                       "SET withdrawn = coalesce(withdrawn, excluded.withdrawn)",
+                       [(it, int(time.time())) for it in found])
         acts.begin(db, ended)
     return ended
 
