@@ -1,7 +1,7 @@
 """The front desk's pages: one question at a time."""
 
 from radacctd_site.core import accounts, acts, names, places, web
-from radacctd_site.core.desk import AWAY, DIFFERS, LIMIT
+from radacctd_site.core.desk import DIFFERS, LIMIT
 from radacctd_site.desk import sales
 
 # Of an account's sessions and sums so many are listed, the newest.
@@ -49,8 +49,7 @@ def sale(visit, number, said="", status=200):
     return visit.page("desk/sale.html", status, sale=it, state=state, back=back, said=said,
                       account=names.readable(it["account"]),
                       is_back=back is not None and acts.state_of(back) == acts.SOLD,
-                      may=sales.may_take_back(it, back, visit.role),
-                      is_full=it["answer"] == LIMIT)
+                      may=sales.may_take_back(it, back, visit.role), is_full=it["answer"] == LIMIT)
 
 
 def take_back(visit):
@@ -70,13 +69,14 @@ def take_back(visit):
             fields={"number": number}, yes=text("Take it back"), no=text("Keep it"),
             back=f"/desk/sale/{number}")
     said = sales.take_back(visit.db, places.book(), it, visit.name)
-    if said == AWAY:
-        return sale(visit, number, visit.text(
-            "The book is away. Nothing was taken back: try again in a minute."), 503)
     if said == DIFFERS:
         return sale(visit, number, visit.text(
             "The book has another sale by this number. Nothing was taken back: call the operator."),
             409)
+    if said:
+        return sale(visit, number, visit.text(
+            "The book does not say that it has this sale. Nothing was taken back: try again in a "
+            "minute, or call the operator."), 503)
     return web.lead(f"/desk/sale/{number}")
 
 
@@ -107,8 +107,7 @@ def shift(visit, said=""):
     db, who = visit.db, visit.name
     sums = sales.sums(db, who)
     return visit.page("desk/shift.html", rows=sales.of_shift(db, who), net=sums["net"], said=said,
-                      counted=counted(visit, sums),
-                      waiting=sales.waiting(db, who),
+                      counted=counted(visit, sums), waiting=sales.waiting(db, who),
                       shifts=sales.shifts(db, who, visit.role), readable=names.readable)
 
 

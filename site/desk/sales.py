@@ -35,8 +35,7 @@ def found(db, number, who, role):
     rows = db.execute("SELECT *, EXISTS (SELECT 1 FROM counted WHERE (number, account, sum) = "
                       "(act.number, act.account, act.sum)) AS counted FROM act "
                       "WHERE number = ? AND kind IN ('sale', 'back') "
-                      "ORDER BY answer IN ('new', 'repeat') DESC, begun",
-                      (number,)).fetchall()
+                      "ORDER BY answer IN ('new', 'repeat') DESC, begun", (number,)).fetchall()
     own = [it for it in rows if it["kind"] == SALE and (it["who"] == who or role == OPERATOR)]
     sale = own[0] if own else None
     back = next((it for it in rows if sale and it["kind"] == BACK and it["sum"] == -sale["sum"]
@@ -56,14 +55,15 @@ def need_corrections(book):
 
 
 def take_back(db, book, sale, who):
-    """Takes back a sale: what the book said. It is asked before whether it has the sale: one that
-    it lost, being an older copy, it has again by that.
+    """Takes back a sale, or says what the book said against it. It is asked before whether it has the
+    sale: one that it lost, being an older copy, it has again by that.
     """
     need_corrections(book)
     known = Act(*(sale[it] for it in Act._fields))
     if (said := acts.ask(book, known)) not in TAKEN:
         return said
-    return acts.do(db, book, known._replace(sum=-known.sum, paid=-known.paid, kind=BACK, who=who))
+    acts.do(db, book, known._replace(sum=-known.sum, paid=-known.paid, kind=BACK, who=who))
+    return None
 
 
 def of_shift(db, who):

@@ -168,9 +168,10 @@ class TakingBack(Desk):
         self.assertEqual(self.back(number), 409)
         self.book.is_away = False
         acts.again(self.db, self.book)
-        self.book.is_away = True
-        self.assertEqual(self.back(number), 503)
-        self.assertIn("Nothing was taken back", self.cashier.text)
+        for said in (desk.AWAY, desk.STRANGE, desk.NO_KEY, desk.LIMIT):
+            self.book.credit = lambda *_, it=said: it
+            self.assertEqual(self.back(number), 503, said)
+            self.assertIn("Nothing was taken back", self.cashier.text)
         self.assertEqual(self.db.execute("SELECT count(*) FROM act").fetchone()[0], 1)
 
     def test_what_an_older_book_lost_is_there_before_it_is_taken_back(self):
