@@ -22,6 +22,8 @@ CREATE TABLE IF NOT EXISTS person (name TEXT PRIMARY KEY, role TEXT NOT NULL, sa
     digest BLOB NOT NULL) STRICT;
 CREATE TABLE IF NOT EXISTS session (digest BLOB PRIMARY KEY,
     name TEXT NOT NULL REFERENCES person ON DELETE CASCADE, begun INTEGER NOT NULL) STRICT;
+CREATE TABLE IF NOT EXISTS place (name TEXT NOT NULL REFERENCES person ON DELETE CASCADE,
+    network TEXT NOT NULL, PRIMARY KEY (name, network)) STRICT;
 CREATE TABLE IF NOT EXISTS try (what TEXT NOT NULL, moment INTEGER NOT NULL) STRICT;
 CREATE INDEX IF NOT EXISTS try_what ON try (what, moment);
 """
@@ -97,8 +99,12 @@ def forget_try(db, kind, *whats):
 
 
 def logged_in(db, name, password, address):
-    """The token of a new session, "" if name or password are wrong, None after too many tries."""
-    whats = (name[:64], network_of(address))
+    """The token of a new session, "" if name or password are wrong, None after too many tries. Where
+    a person has logged in before, tries from elsewhere by that name do not count.
+    """
+    place = name, network_of(address)
+    is_known = db.execute("SELECT 1 FROM place WHERE (name, network) = (?, ?)", place).fetchone()
+    whats = place[1:] if is_known else (name[:64], place[1])
     if not may_try(db, "login", *whats):
         return None
     if not is_password(db, name, password):
@@ -108,6 +114,7 @@ def logged_in(db, name, password, address):
     with db:
         db.execute("DELETE FROM session WHERE begun NOT BETWEEN ? AND ?", (now - LASTS, now))
         db.execute("INSERT INTO session VALUES (?, ?, ?)", (digest_of(token), name, now))
+        db.execute("INSERT OR IGNORE INTO place VALUES (?, ?)", place)
     return token
 
 

@@ -8,7 +8,7 @@ import sqlite3
 import time
 from unittest import mock
 
-from radacctd_site.core import Failed, acts, desk, features, people, store, web
+from radacctd_site.core import Failed, acts, cli, desk, features, people, store, web
 from radacctd_site.core.acts import Act
 from radacctd_site.core.features import CASHIER, OPERATOR
 from radacctd_site.core.test_client import PASSWORD, Browser, Site
@@ -97,6 +97,13 @@ class Acts(Site):
         self.assertEqual(sent, set(self.book.asked))
 
 
+class Commands(Site):
+    def test_the_help_of_each_command_is_a_text(self):
+        for name in features.commands():
+            said = cli.parser(name, cli.module_of(name)).format_help()
+            self.assertNotIn(" object at ", said, name)
+
+
 class Logins(Site):
     def test_a_login_is_a_token_of_which_the_digest_is_kept(self):
         browser = self.browser(CASHIER)
@@ -150,6 +157,18 @@ class Logins(Site):
         later = time.time() + people.WINDOW + 1
         with mock.patch.object(time, "time", lambda: later):
             self.assertEqual(other.post("/login/", name="anna", password=PASSWORD), 303)
+
+    def test_strangers_lock_nobody_out_where_they_logged_in_before(self):
+        for name in ("anna", "bert"):
+            people.put(self.db, name, CASHIER, PASSWORD)
+        log_in = lambda at, name="anna", password=PASSWORD: Browser(
+            self.app, address=f"192.0.2.{at}").post("/login/", name=name, password=password)
+        self.assertEqual([log_in(1), log_in(1, "bert")], [303, 303])
+        for at in range(2, 7):
+            self.assertEqual(log_in(at, password="wrong"), 403)
+        self.assertEqual([log_in(7), log_in(1)], [429, 303])
+        self.assertEqual([log_in(1, password="wrong") for _ in range(6)], [403] * 5 + [429])
+        self.assertEqual(log_in(1), 429)
 
     def test_right_logins_are_no_tries(self):
         people.put(self.db, "anna", CASHIER, PASSWORD)

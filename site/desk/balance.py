@@ -6,7 +6,7 @@ from radacctd_site.core import Failed, accounts, money, names, places
 
 
 def arguments(it):
-    it.add_argument("account", help="its name; % and two digits are an octet")
+    it.add_argument("account", help="its name; %% and two digits are an octet")
 
 
 def main(words):

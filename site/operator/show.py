@@ -4,7 +4,7 @@ from radacctd_site.core import Failed, accounts, acts, moment, money, names, pla
 
 
 def arguments(it):
-    it.add_argument("account", help="its name; % and two digits are an octet")
+    it.add_argument("account", help="its name; %% and two digits are an octet")
 
 
 def main(words):
