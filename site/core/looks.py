@@ -1,15 +1,17 @@
-"""What several features look at, and no step sees: secrets, certificates, stores, what waits."""
+"""What several features look at, and no step sees: secrets, certificates, stores, what waits, and
+who is silent.
+"""
 
 import os
 import re
 import time
 from ssl import cert_time_to_seconds as seconds_of
 
-from radacctd_site.core import files, machine, places
+from radacctd_site.core import accounts, files, machine, moment, names, places, sessions
 from radacctd_site.core.steps import Fault
 
-# How long a certificate is to last, and a report may wait, in seconds.
-SOON, WAITS = 21 * 86400, 300
+# How long a certificate is to last, a report may wait, and an access server be silent, in seconds.
+SOON, WAITS, SILENT = 21 * 86400, 300, 2 * 86400
 # What tells whether a store is sound, and may be written now; and the cure of each reason.
 TRY = "import sqlite3, sys; it = sqlite3.connect(sys.argv[1]); it.isolation_level = None; " \
       "said = it.execute('PRAGMA quick_check').fetchone()[0]; it.execute('BEGIN IMMEDIATE'); " \
@@ -68,3 +70,22 @@ def waits(folder, name, whom, cure):
     if oldest is not None and time.time() - oldest > WAITS:
         since = time.strftime("%F %T", time.localtime(oldest))
         yield Fault(name, f"reports wait for {whom} since {since}", cure)
+
+
+def silent(servers):
+    """Access servers without a report in the book, or without one of late: each a name, and by what
+    names and addresses its reports are known.
+    """
+    servers, heard = [*servers], {}
+    found = sessions.of_all(places.book(), accounts.known()[0]) if servers else None
+    for it in found or ():
+        # Behind FreeRADIUS it is front/nNAS-IDENTIFIER, or front/aADDRESS; and the last is first.
+        device = it["client"].partition("/")[2][1:] or it["client"]
+        heard.setdefault(names.octets_of(device), it["last"])
+    for name, known in servers if found is not None else ():
+        last = max(heard.get(it, 0) for it in known)
+        if last < time.time() - SILENT:
+            since = f" since {moment(last)}" if last else ""
+            yield Fault("device-silent", f"{name} has reported nothing{since}",
+                        f"see {places.NOTES}/access-servers, accounting too; radacctl who shows by "
+                        "which names reports come")

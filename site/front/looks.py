@@ -7,7 +7,7 @@ import socket
 
 from radacctd_site.core import files, looks, machine
 from radacctd_site.core.steps import Fault
-from radacctd_site.front import clients, setup, users
+from radacctd_site.front import clients, cut, setup, users
 from radacctd_site.front.clients import RADDB
 
 UNIT = "radacctd-front.service"
@@ -30,6 +30,9 @@ def look_at(answers, config):
         yield from users_away(answers.sql) if answers.sql else users_here()
     yield from secrets()
     yield from access_servers()
+    # Whom nobody cuts off is named by that.
+    found = ((name, cut.servers(f"client {name} {{{text}}}")) for name, text in clients.known())
+    yield from looks.silent(it for it in found if it[1])
     yield from kept()
     client = config.clients["front"]
     if not (client.get("stamped") is client.get("proxy") is True):
@@ -43,9 +46,8 @@ def secrets():
         if "change-me" in files.text(path):
             yield Fault("sample-value", f"{path} has a secret that begins with change-me",
                         f"replace it: openssl rand -hex 16; {RESTART}")
-    found = [(name, clients.value(text, "secret")) for name, text in clients.known()]
-    yield from looks.secrets(f"{RADDB}/clients.conf",
-                             [it for it in found if it[1] and "change-me" not in it[1]])
+    yield from looks.secrets(f"{RADDB}/clients.conf", (
+        (name, clients.value(text, "secret")) for name, text in clients.known()))
 
 
 def access_servers():
@@ -89,8 +91,9 @@ def ignored():
     if unknown := sorted(set(UNKNOWN.findall(said))):
         more = f" and {len(unknown) - MOST_NAMED} more" if len(unknown) > MOST_NAMED else ""
         named = ", ".join(unknown[:MOST_NAMED])
-        yield Fault("device-unknown", f"FreeRADIUS ignores {named}{more}: no client of it", f"if it is yours, write it into {RADDB}/clients.conf; "
-                    f"{RESTART}; if not, shut it out")
+        yield Fault("device-unknown", f"FreeRADIUS ignores {named}{more}: no client of it",
+                    f"if it is yours, write it into {RADDB}/clients.conf; {RESTART}; if not, shut it "
+                    "out")
 
 
 def kept():

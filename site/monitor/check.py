@@ -1,4 +1,4 @@
-"""The check of a site that `radacctl setup` made, each night: what it finds fails the night's unit."""
+"""The check of a site that `radacctl setup` made, each night: faults that it finds fail the unit."""
 
 import os
 import time
@@ -14,5 +14,6 @@ def each_night():
         time.sleep(seconds)
         status, said = machine.run(places.RADACCTL, "setup", "--check", seconds=3600)
         if not status:
+            print(said, end="")
             return
     raise Failed(f"radacctl setup --check:\n{said}")

@@ -4,8 +4,7 @@ import collections
 import datetime
 import time
 
-from radacctd_site.core import accounts, acts, names, places
-from radacctd_site.operator import sessions
+from radacctd_site.core import accounts, acts, names, places, sessions
 
 # How many days are shown, and how many lines of a list.
 DAYS, LINES = 30, 200

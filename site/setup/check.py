@@ -53,15 +53,17 @@ def faults(*given):
     critical, found = features.meanings("CRITICAL"), looked_at(*given)
     if any(it.name == "book-away" for it in found):
         found = [it._replace(cure=FIRST) if it.name in FOLLOW else it for it in found]
-    return sorted(dict.fromkeys(found), key=lambda it: (it.name != "book-away",
-                                                        it.name not in critical))
+    notes = features.meanings("NOTES")
+    return sorted(dict.fromkeys(found), key=lambda it: (
+        it.name != "book-away", it.name not in critical, it.name in notes))
 
 
 def main(*given):
-    """Prints each fault: the status."""
-    found = faults(*given)
+    """Prints each fault, and what is none of the site's: the status."""
+    found, notes = faults(*given), features.meanings("NOTES")
     for it in found:
         print(cli.plain(f"{it.name}: {it.text}. Do: {it.cure}"))
-    if not found:
+    is_wrong = any(it.name not in notes for it in found)
+    if not is_wrong:
         print("nothing is wrong")
-    return 1 if found else 0
+    return int(is_wrong)

@@ -24,9 +24,12 @@ WARNINGS = {
     "sample-value": "a secret or key is the sample's, which is public",
     "secret-short": "a secret has less than 16 characters",
     "clock-unset": "nothing keeps the clock",
-    "device-unknown": "what is no client sends reports or logins: a device with a new address, or "
-                      "a stranger",
     "certificate-ends": "a certificate ends within three weeks",
     "certificate-old": "nginx has not read a certificate that was renewed",
     "not-seen": "a side of the site could not be looked at",
+}
+NOTES = {
+    "device-unknown": "what is no client sends reports or logins: a device with a new address, or "
+                      "a stranger",
+    "device-silent": "an access server of which no report came, or none for two days",
 }

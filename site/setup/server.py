@@ -9,7 +9,7 @@ import time
 from radacctd_site.core import (
     Failed, accounts, book, corrections, features, files, looks, machine, names, places, steps)
 from radacctd_site.core.steps import Command, Fault, File, Folder, Unit
-from radacctd_site.setup import config as of_config
+from radacctd_site.setup import answers as of_answers, config as of_config
 
 # The marks of a set-up that ended well.
 PROVED, ANSWERS = f"{places.NOTES}/proved", f"{places.NOTES}/answers.json"
@@ -100,6 +100,8 @@ def seen(config):
     yield from plans_lost(config)
     yield from printed()
     yield from looks.store(places.DATABASE)
+    yield from looks.silent((it, [it.encode()]) for it in config.clients
+                            if it not in of_answers.TAKEN_NAMES)
     desk = corrections.settings().get("RADACCTD_DESK_BIND") or "127.0.0.1"
     if not desk.startswith("127."):
         yield Fault("desk-open", f"radacctd's desk, which sells, listens at {desk}",

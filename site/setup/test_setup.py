@@ -19,7 +19,7 @@ import unittest
 from unittest import mock
 
 from radacctd_site.core import (
-    Failed, accounts, book, corrections, features, files, looks, machine, places, steps)
+    Failed, accounts, book, corrections, features, files, looks, machine, places, sessions, steps)
 from radacctd_site.setup import (
     answers, beside, check, config, devices, pages, server, setup_command)
 
@@ -598,6 +598,31 @@ class Check(Folder):
         found = check.faults(mock.Mock(side_effect=Failed("line 3")), None, None, None)
         self.assertEqual([it.name for it in found], ["book-away", "config-wrong", "disk-full"])
 
+    def test_what_is_no_fault_of_the_site_is_named_last_and_fails_nothing(self):
+        note, fault = steps.Fault("device-unknown", "x", "y"), steps.Fault("copy-old", "x", "y")
+        for found, last, status in (([note], "nothing is wrong", 0), ([], "nothing is wrong", 0),
+                                    ([note, fault], "device-unknown: x. Do: y", 1)):
+            self.patch(check, sides=lambda *_, it=found: [lambda: it])
+            with contextlib.redirect_stdout(io.StringIO()) as said:
+                found_status = check.main(lambda: None, None, None, lambda *_: ())
+            self.assertEqual((found_status, said.getvalue().splitlines()[-1]), (status, last))
+            self.assertEqual(note in found, "device-unknown: " in said.getvalue())
+
+    def test_access_servers_that_have_reported_nothing(self):
+        heard = lambda client, days=0: {"client": client, "last": int(time.time()) - 86400 * days}
+        rows = (((), 1, ""), (None, 0, ""), ([heard("lobby")], 0, ""), ([heard("hall")], 1, ""),
+                ([heard("front/nlobby")], 0, ""), ([heard("front/a%0A%00%00%01")], 0, ""),
+                ([heard("front/nlobby%20"), heard("front/"), heard("front")], 1, ""),
+                ([heard("front/nlobby", 3)], 1, " since 20"),
+                ([heard("lobby"), heard("front/nlobby", 3)], 0, ""))
+        self.patch(places, book=lambda: None)
+        for found, count, since in rows:
+            self.patch(sessions, of_all=lambda *_, it=found: it)
+            said = list(looks.silent(it for it in [("lobby", [b"lobby", b"\n\0\0\1"])]))
+            self.assertEqual(len(said), count, found)
+            self.assertTrue(not said or f"lobby has reported nothing{since}" in said[0].text)
+        self.assertEqual(list(looks.silent([])), [])
+
     def test_no_cure_starts_a_server_whose_book_is_away(self):
         found = self.faults(lambda: [steps.Fault("unit-down", "x", "systemctl restart radacctd"),
                                      steps.Fault("book-away", "x", "look"),
@@ -605,7 +630,7 @@ class Check(Folder):
         self.assertEqual([it.cure for it in found], ["look", check.FIRST, check.FIRST])
 
     def test_each_fault_that_is_named_has_a_meaning(self):
-        known = {*features.meanings("CRITICAL"), *features.meanings("WARNINGS")}
+        known = {name for kind in ("CRITICAL", "WARNINGS", "NOTES") for name in features.meanings(kind)}
         named = set()
         for top, _, names in os.walk(places.TOP):
             for name in (it for it in names if it.endswith(".py") and not it.startswith("test_")):
@@ -661,7 +686,8 @@ class Check(Folder):
         self.patch(machine, run=lambda *_: (0, ""))
         for bind, names in (("", []), ("127.0.0.3", []), ("0.0.0.0", ["desk-open"])):
             self.patch(corrections, settings=lambda it=bind: {"RADACCTD_DESK_BIND": it})
-            self.assertEqual([it.name for it in server.seen(mock.Mock(found={}))], names)
+            found = server.seen(mock.Mock(found={}, clients={}))
+            self.assertEqual([it.name for it in found], names)
 
     def test_a_lost_plan(self):
         made = mock.Mock(found={"plan": [{"class": "a", "block": 1, "unit": 2}]})
