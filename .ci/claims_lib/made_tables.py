@@ -13,13 +13,12 @@ def row(*cells):
 
 
 def commands(_checker):
-    """Each command of the program with the first sentence of the manual page on it."""
-    page = text_of("man/radacctd.8").split("The commands:\n")[1].split("The options:\n")[0]
+    """Each command of the program with what its help says."""
+    text = text_of("crates/acct_program_args/src/commands.rt")
     yield row("Command", "What it does")
     yield "|---|---|"
-    for name, text in re.findall(r"^\.It Cm (\w+)\n(.*?)(?=^\.It|^\.El)", page, re.M | re.S):
-        plain = " ".join(re.sub(r"^\.\w+ ", "", text, flags=re.M).split())
-        yield row(f"`{name}`", contracts.first_of(plain).rstrip("."))
+    found = re.findall(r'(?s)\nfn (\w+)_command<.{1,200}? about =\s+"([^"]+)"', text)
+    yield from (row(f"`{name}`", about) for name, about in sorted(found))
 
 
 # Where each command of radacctl is explained.
@@ -36,14 +35,16 @@ EXPLAINED = {
 
 
 def radacctl(checker):
-    """Each command of radacctl with what its manual page says, and the page on it."""
-    found = dict(re.findall(r"^\.It Cm (\w+)\n(.*)$", text_of("man/radacctl.8"), re.M))
+    """Each command of radacctl with what its feature says, and the page on it."""
+    paths = [it for it in checker.tree.files if re.fullmatch(r"site/\w+/feature\.py", it)]
+    found = {name: text for path in sorted(paths, key=lambda it: ("/core/" not in it, it))
+             for name, text in re.findall(r'"(\w+)": \("([^"]+)", "\w+"\)', text_of(path))}
     for name in sorted(set(found) ^ set(EXPLAINED)):
         checker.find(1, f"`radacctl {name}`: no such command, or no page: see made_tables.py")
     yield row("Command", "What it does", "Read")
     yield "|---|---|---|"
     for name, text in found.items():
-        yield row(f"`radacctl {name}`", text.rstrip("."), EXPLAINED.get(name, ""))
+        yield row(f"`radacctl {name}`", text, EXPLAINED.get(name, ""))
 
 
 # A limit of the site, in words, with the constants that it has in the order of the words.

@@ -1,7 +1,6 @@
 """How radacctl ends, and that it leaves nothing next to it."""
 
 import os
-import re
 import subprocess
 import unittest
 
@@ -18,12 +17,6 @@ class Program(unittest.TestCase):
     def test_a_bad_command_line(self):
         for words in ((), ("no-such",), ("--no-such",), ("sell", "--no")):
             self.assertEqual(self.run_it(*words).returncode, 2, words)
-
-    def test_the_manual_page_has_each_command_and_what_it_does(self):
-        with open(os.path.join(ROOT, "man", "radacctl.8"), encoding="utf-8") as file:
-            shown = re.findall(r"(?m)^\.It Cm (\w+)\n(.*)\.$", file.read())
-        said = re.findall(r"(?m)^    (\w+) +(.*)$", self.run_it("--help").stdout)
-        self.assertEqual(shown, said)
 
     def test_nothing_is_left_next_to_the_package(self):
         self.run_it("--help")
