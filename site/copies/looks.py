@@ -1,4 +1,4 @@
-"""The first copy; and of the night's what no step sees: how old the last is, and if it was refused."""
+"""The first copy; and what no step sees of the others: how old the last is, whether it is good."""
 
 import os
 import time

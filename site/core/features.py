@@ -58,7 +58,8 @@ def modules(member):
 
 def meanings(member):
     """What each fault means, by its name: those that harm now, or those that wait."""
-    return {name: text for it in features().values() for name, text in getattr(it, member, {}).items()}
+    return {name: text for it in features().values()
+            for name, text in getattr(it, member, {}).items()}
 
 
 def commands():

@@ -99,8 +99,8 @@ def forget_try(db, kind, *whats):
 
 
 def logged_in(db, name, password, address):
-    """The token of a new session, "" if name or password are wrong, None after too many tries. Where
-    a person has logged in before, tries from elsewhere by that name do not count.
+    """The token of a new session, "" if name or password are wrong, None after too many tries.
+    Where a person has logged in before, tries from elsewhere by that name do not count.
     """
     place = name, network_of(address)
     is_known = db.execute("SELECT 1 FROM place WHERE (name, network) = (?, ?)", place).fetchone()

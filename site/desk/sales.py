@@ -55,8 +55,8 @@ def need_corrections(book):
 
 
 def take_back(db, book, sale, who):
-    """Takes back a sale, or says what the book said against it. It is asked before whether it has the
-    sale: one that it lost, being an older copy, it has again by that.
+    """Takes back a sale, or says what the book said against it. It is asked before whether it has
+    the sale: one that it lost, being an older copy, it has again by that.
     """
     need_corrections(book)
     known = Act(*(sale[it] for it in Act._fields))

@@ -67,14 +67,17 @@ def request(session, server, now):
 
 
 def ask(server, requests):
-    """Has radclient send them. It reads the secret from memory, not from its arguments."""
+    """Has radclient send them. It reads the secret from memory, not from its arguments. The check
+    reads in the journal who answers none."""
     with open(os.memfd_create("secret"), "w", encoding="utf-8") as secret:
         print(server["secret"], file=secret, flush=True)
-        words = ["radclient", "-q", "-S", f"/proc/self/fd/{secret.fileno()}", "-p", "20", "-r", "2",
-                 "-t", "2", server["address"], "disconnect"]
+        words = ["radclient", "-qs", "-S", f"/proc/self/fd/{secret.fileno()}", "-p", "20",
+                 "-r", "2", "-t", "2", server["address"], "disconnect"]
         with contextlib.suppress(subprocess.TimeoutExpired):
-            subprocess.run(words, input="\n".join(requests).encode(), stdout=subprocess.DEVNULL,
-                           pass_fds=[secret.fileno()], timeout=LONGEST, check=False)
+            done = subprocess.run(words, input="\n".join(requests).encode(), stdout=subprocess.PIPE,
+                                  pass_fds=[secret.fileno()], timeout=LONGEST, check=False)
+            if re.search(rb"Lost\s+: [1-9]", done.stdout):
+                print(f"{server['address']} answers no Disconnect-Request", flush=True)
 
 
 def cut(settings, clients, now):

@@ -5,22 +5,23 @@ devices that it ignores, reports that wait.
 import re
 import socket
 
-from radacctd_site.core import files, looks, machine
+from radacctd_site.core import book, files, looks, machine, names, places
 from radacctd_site.core.steps import Fault
 from radacctd_site.front import clients, cut, setup, users
 from radacctd_site.front.clients import RADDB
 
-UNIT = "radacctd-front.service"
+UNIT, CUT = setup.UNITS
 RESTART = f"systemctl restart {UNIT}, or freeradius if it is your own"
 # Only FreeRADIUS' own lines have a device that it does not know, or whose secret is another one.
 BEGIN = r"(?m)^.{24} : \w+: "
 UNKNOWN = re.compile(BEGIN + r"Ignoring request to .* unknown client (\S+) port \d+ ")
 OTHER_SECRET = re.compile(BEGIN + r"Dropping packet without response because of error: Received "
                           r"(?:\S+ )?packet from (?:client )?(\S+) with invalid .*secret is incorrect")
+NOT_CUT = re.compile(r"(?m)^(\S+) answers no Disconnect-Request$")
 MOST_NAMED = 3
 
 
-def look_at(answers, config):
+def look_at(answers, _):
     if not answers.has_front:
         return
     if not answers.is_own:
@@ -28,30 +29,20 @@ def look_at(answers, config):
                                      f"remove {setup.CERTS}, and give radacctl setup")
         yield from ignored()
         yield from users_away(answers.sql) if answers.sql else users_here()
-    yield from secrets()
+    yield from looks.secrets(f"{RADDB}/clients.conf", (
+        (name, clients.value(text, "secret")) for name, text in clients.known()))
     yield from access_servers()
     # Whom nobody cuts off is named by that.
     found = ((name, cut.servers(f"client {name} {{{text}}}")) for name, text in clients.known())
     yield from looks.silent(it for it in found if it[1])
     yield from kept()
-    client = config.clients["front"]
-    if not (client.get("stamped") is client.get("proxy") is True):
-        yield Fault("front-wrong", "radacctd's client front is not stamped, or no proxy: the wrong "
-                    "account pays", "write stamped = true and proxy = true there")
-
-
-def secrets():
-    """Secrets of the samples, and short ones."""
-    for path in (f"{RADDB}/{it}" for it in setup.EDITED):
-        if "change-me" in files.text(path):
-            yield Fault("sample-value", f"{path} has a secret that begins with change-me",
-                        f"replace it: openssl rand -hex 16; {RESTART}")
-    yield from looks.secrets(f"{RADDB}/clients.conf", (
-        (name, clients.value(text, "secret")) for name, text in clients.known()))
 
 
 def access_servers():
     """A client that is every address, or where nobody is cut off; a week of counting alone."""
+    for address in sorted(set(NOT_CUT.findall(machine.journal(CUT)))):
+        yield Fault("device-deaf", f"{address} answers no Disconnect-Request: overdrawn guests go on",
+                    f"let it take them, by the secret of {places.NOTES}/access-servers")
     for name, text in clients.known():
         address, port = clients.value(text, "ip(?:v[46])?addr"), clients.value(text, "cut")
         if re.fullmatch(r"0\.0\.0\.0|::|\*|.*/[0-7]", address):
@@ -66,11 +57,16 @@ def access_servers():
 
 
 def users_here():
-    """The file of users, and who logs in without a password."""
+    """The file of users, who logs in without a password, and plans that are none."""
     yield from looks.store(users.FILE)
     for name in users.open_to_all():
         yield Fault("front-wrong", f"{name} in {users.FILE} logs in without a password",
                     "give it one, or remove its row of radcheck")
+    known = book.in_force()
+    for name in users.classes() if known else ():
+        if names.shown(name.encode()) not in known:
+            yield Fault("front-wrong", f"a group in {users.FILE} has the Class {name}, which is no "
+                        "plan: `default` prices it", "correct its row of radgroupreply, or add it")
 
 
 def users_away(sql):
@@ -92,8 +88,8 @@ def ignored():
         more = f" and {len(unknown) - MOST_NAMED} more" if len(unknown) > MOST_NAMED else ""
         named = ", ".join(unknown[:MOST_NAMED])
         yield Fault("device-unknown", f"FreeRADIUS ignores {named}{more}: no client of it",
-                    f"if it is yours, write it into {RADDB}/clients.conf; {RESTART}; if not, shut it "
-                    "out")
+                    f"if it is yours, write it into {RADDB}/clients.conf; {RESTART}; if not, shut "
+                    "it out")
 
 
 def kept():

@@ -110,7 +110,8 @@ class Proof:
             f'Acct-Session-Id = "{secrets.token_hex(8)}"',
             f"Acct-{name}-Octets = {octets % 2**32}", f"Acct-{name}-Gigawords = {octets >> 32}"])
         if "Received Accounting-Response" not in said:
-            raise Failed("FreeRADIUS did not answer a report: see its journal, or its log")
+            raise Failed("FreeRADIUS did not answer a report: see its journal, or its log; or a "
+                         "firewall of this machine: nft list ruleset")
 
     def client(self, port, act, lines):
         """What radclient prints of a packet of the set-up's own client, which it sends twice. The

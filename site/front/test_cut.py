@@ -1,5 +1,7 @@
 """Cut-off: who is overdrawn is disconnected, by nobody's leave but the desk's. Over the program or its stand-in."""
+import contextlib
 import hashlib
+import io
 import os
 import socket
 import subprocess
@@ -136,8 +138,10 @@ class Cut(unittest.TestCase):
             self.open(f"s{n}", 100)
         self.open("t", 20 * lab.MEBIBYTE, device="two")
         start = time.time()
-        self.assertEqual(self.cut(int(start), one=one, two=two), 31)
+        with contextlib.redirect_stdout(io.StringIO()) as said:
+            self.assertEqual(self.cut(int(start), one=one, two=two), 31)
         self.assertLess(time.time() - start, cut.LONGEST + 5)
+        self.assertEqual(said.getvalue(), f"127.0.0.1:{one.port} answers no Disconnect-Request\n")
         self.assertEqual(len(two.asked), 1)
 
     def test_the_desk_is_away(self):

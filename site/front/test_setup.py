@@ -7,7 +7,7 @@ import time
 import unittest
 from unittest import mock
 
-from radacctd_site.core import Failed, files, looks as of_core, machine
+from radacctd_site.core import Failed, book, files, looks as of_core, machine
 from radacctd_site.core.test_client import answers as wanted
 from radacctd_site.front import clients, cut, looks, setup, users
 
@@ -184,9 +184,24 @@ class Looks(unittest.TestCase):
                                ("128.0.0.0/1", 1), ("0.0.0.0", 1),
                                ("10.0.0.0/8\n\tobserve = yes", 1)):
             text = f"client x {{\n\tipv4addr = {address}\n}}\n"
-            with mock.patch.object(files, "text", lambda _, it=text: it):
+            with mock.patch.object(files, "text", lambda _, it=text: it), \
+                    mock.patch.object(machine, "journal", lambda _: ""):
                 self.assertEqual(len([it for it in looks.access_servers()
                                       if it.name == "front-wrong"]), count, address)
+
+    def test_who_answers_no_request_to_cut_off_is_told(self):
+        said = "10.0.0.7:3799 answers no Disconnect-Request\n" * 2 + "not done: x\n"
+        with mock.patch.object(files, "text", lambda _: ""), \
+                mock.patch.object(machine, "journal", lambda _: said):
+            [fault] = looks.access_servers()
+        self.assertEqual((fault.name, fault.text[:14]), ("device-deaf", "10.0.0.7:3799 "))
+
+    def test_a_plan_of_a_group_that_there_is_not_is_told(self):
+        for known, count in (({"gold": 1, "m%C3%BC": 1}, 0), ({"gold": 1}, 1), ({}, 0)):
+            with mock.patch.object(book, "in_force", lambda it=known: it), \
+                    mock.patch.object(of_core, "store", lambda _: ()), \
+                    mock.patch.object(users, "sql", lambda it: "gold\nmü\n" * ("'Class'" in it)):
+                self.assertEqual(len(list(looks.users_here())), count, known)
 
 
 if __name__ == "__main__":

@@ -65,6 +65,11 @@ def open_to_all():
                "attribute LIKE '%-Password' AND value = '';").splitlines()
 
 
+def classes():
+    """The plans that groups have."""
+    return sql("SELECT DISTINCT value FROM radgroupreply WHERE attribute = 'Class';").splitlines()
+
+
 def make_login():
     sql("INSERT INTO radcheck (username, attribute, op, value) VALUES "
         f"('{clients.TEST_NAME}', 'Cleartext-Password', ':=', '{secrets.token_hex(16)}');\n")
