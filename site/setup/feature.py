@@ -31,5 +31,6 @@ WARNINGS = {
 NOTES = {
     "device-unknown": "what is no client sends reports or logins: a device with a new address, or "
                       "a stranger",
+    "host-unknown": "the pages' name has no address in the DNS, as this machine asks it",
     "device-silent": "an access server of which no report came, or none for two days",
 }

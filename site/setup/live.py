@@ -32,7 +32,8 @@ from served import check
 
 LINE = re.compile(r"([a-z0-9-]+): (.+)\. Do: (.+)")
 # What is no fault of the site: it is named, and the status is 0.
-NOTES, SOUND = ("device-unknown", "device-silent", "device-deaf"), "nothing is wrong"
+NOTES = ("device-unknown", "host-unknown", "device-silent", "device-deaf")
+SOUND = "nothing is wrong"
 FRONT, KEPT = "/etc/radacctd-front", "/var/lib/radacctd-front"
 SETTINGS, CERTIFICATE = f"{FRONT}/settings.conf", f"{FRONT}/certs/server.pem"
 CONFIG, COPIES, BOOK = "/etc/radacctd.toml", "/var/backups/radacctd", "/var/lib/radacctd/book"
@@ -269,8 +270,16 @@ def hears_nothing(box):
     check("and no more once a report came", found, True)
 
 
+def has_no_name(box):
+    """The pages' name is told of until it has an address."""
+    is_told = lambda: any(it.startswith("host-unknown: ") for it in start_site.faults(box)[1])
+    before = is_told()
+    box.must(f"echo 127.0.0.1 {start_site.HOST} >> /etc/hosts")
+    check("a name without an address, and with one", (before, is_told()), (True, False))
+
+
 PARTS = {"again": done_again, "lost": loses_its_book, "outside": from_outside,
-         "silent": hears_nothing}
+         "silent": hears_nothing, "name": has_no_name}
 
 
 def main():
@@ -291,7 +300,7 @@ def main():
     for it in ("setup", "front", "copies"):
         with open(f"{ROOT}/site/{it}/feature.py", encoding="utf-8") as file:
             known |= set(re.findall(r'"([a-z-]+)": "', file.read()))
-    # A database of users that is away: interop/start campus. Who is silent: a part.
+    # A database of users that is away: interop/start campus. Who is silent, a name: parts.
     check("each fault has a row here", named ^ known, {"users-away", *NOTES[1:]})
     print("failed:", served.failures)
     return 1 if served.failures else 0

@@ -143,7 +143,12 @@ def others(answers):
 
 
 def seen(answers):
-    """What a step does not see: a certificate that ends, or was not read."""
+    """What a step does not see: a name without an address, a certificate that ends or was not read."""
+    try:
+        socket.getaddrinfo(answers.host, 443)
+    except OSError as why:
+        yield Fault("host-unknown", f"{answers.host} has no address: {why.strerror}",
+                    "write it into your DNS, with this machine's address")
     path = answers.certificate or CERTIFICATE
     found = list(looks.certificate(path, "renew it, then: systemctl reload nginx"))
     yield from found

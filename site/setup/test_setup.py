@@ -9,6 +9,7 @@ import pwd
 import re
 import shlex
 import shutil
+import socket
 import sqlite3
 import stat
 import subprocess
@@ -688,6 +689,14 @@ class Check(Folder):
             self.patch(corrections, settings=lambda it=bind: {"RADACCTD_DESK_BIND": it})
             found = server.seen(mock.Mock(found={}, clients={}))
             self.assertEqual([it.name for it in found], names)
+
+    def test_a_name_without_an_address(self):
+        self.patch(looks, certificate=lambda *_: [steps.Fault("certificate-ends", "x", "y")])
+        unknown = socket.gaierror(socket.EAI_NONAME, "Name or service not known")
+        for asked, names in (({"return_value": []}, []), ({"side_effect": unknown}, ["host-unknown"])):
+            self.patch(socket, getaddrinfo=mock.Mock(**asked))
+            found = pages.seen(mock.Mock(host="a.example.org", certificate=""))
+            self.assertEqual([it.name for it in found], [*names, "certificate-ends"])
 
     def test_a_lost_plan(self):
         made = mock.Mock(found={"plan": [{"class": "a", "block": 1, "unit": 2}]})
