@@ -32,10 +32,10 @@ def look_at(answers, _):
     yield from looks.secrets(f"{RADDB}/clients.conf", (
         (name, clients.value(text, "secret")) for name, text in clients.known()))
     yield from access_servers()
+    yield from kept()
     # Whom nobody cuts off is named by that.
     found = ((name, cut.servers(f"client {name} {{{text}}}")) for name, text in clients.known())
     yield from looks.silent(it for it in found if it[1])
-    yield from kept()
 
 
 def access_servers():

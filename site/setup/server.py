@@ -100,8 +100,6 @@ def seen(config):
     yield from plans_lost(config)
     yield from printed()
     yield from looks.store(places.DATABASE)
-    yield from looks.silent((it, [it.encode()]) for it in config.clients
-                            if it not in of_answers.TAKEN_NAMES)
     desk = corrections.settings().get("RADACCTD_DESK_BIND") or "127.0.0.1"
     if not desk.startswith("127."):
         yield Fault("desk-open", f"radacctd's desk, which sells, listens at {desk}",
@@ -113,6 +111,8 @@ def seen(config):
     for line in said.splitlines():
         if "is the sample's, which is public" in line:
             yield Fault("sample-value", f"{places.CONFIG}: {line}", "replace it")
+    yield from looks.silent((it, [it.encode()]) for it in config.clients
+                            if it not in of_answers.TAKEN_NAMES)
 
 
 def away():
