@@ -7,11 +7,13 @@ import re
 import time
 from ssl import cert_time_to_seconds as seconds_of
 
-from radacctd_site.core import accounts, files, machine, moment, names, places, sessions
+from radacctd_site.core import accounts, files, machine, moment, names, places
 from radacctd_site.core.steps import Fault
 
 # How long a certificate is to last, a report may wait, and an access server be silent, in seconds.
 SOON, WAITS, SILENT = 21 * 86400, 300, 2 * 86400
+# Of how many accounts the sessions are looked at.
+MOST = 5000
 # What tells whether a store is sound, and may be written now; and the cure of each reason.
 TRY = "import sqlite3, sys; it = sqlite3.connect(sys.argv[1]); it.isolation_level = None; " \
       "said = it.execute('PRAGMA quick_check').fetchone()[0]; it.execute('BEGIN IMMEDIATE'); " \
@@ -74,18 +76,23 @@ def waits(folder, name, whom, cure):
 
 def silent(servers):
     """Access servers without a report in the book, or without one of late: each a name, and by what
-    names and addresses its reports are known.
+    names and addresses its reports are known. Accounts are looked at until all were heard of.
     """
-    servers, heard = [*servers], {}
-    found = sessions.of_all(places.book(), accounts.known()[0]) if servers else None
-    for it in found or ():
-        # Behind FreeRADIUS it is front/nNAS-IDENTIFIER, or front/aADDRESS; and the last is first.
-        device = it["client"].partition("/")[2][1:] or it["client"]
-        heard.setdefault(names.octets_of(device), it["last"])
-    for name, known in servers if found is not None else ():
+    missing, heard = dict(servers), {}
+    book = missing and places.book()
+    for account in sorted(accounts.known()[0])[:MOST]:
+        # Nobody is missing any more, or the desk does not tell.
+        if not missing or (found := accounts.told(book, account, accounts.SESSIONS)) is None:
+            return
+        for it in found:
+            # Behind FreeRADIUS it is front/nNAS-IDENTIFIER, or front/aADDRESS.
+            device = names.octets_of(it["client"].partition("/")[2][1:] or it["client"])
+            heard[device] = max(it["last"], heard.get(device, 0))
+        missing = {name: known for name, known in missing.items()
+                   if max(heard.get(it, 0) for it in known) < time.time() - SILENT}
+    for name, known in missing.items():
         last = max(heard.get(it, 0) for it in known)
-        if last < time.time() - SILENT:
-            since = f" since {moment(last)}" if last else ""
-            yield Fault("device-silent", f"{name} has reported nothing{since}",
-                        f"see {places.NOTES}/access-servers, accounting too; radacctl who shows by "
-                        "which names reports come")
+        since = f" since {moment(last)}" if last else ""
+        yield Fault("device-silent", f"{name} has reported nothing{since}",
+                    f"see {places.NOTES}/access-servers, accounting too; radacctl who shows by "
+                    "which names reports come")

@@ -4,7 +4,8 @@ import collections
 import datetime
 import time
 
-from radacctd_site.core import accounts, acts, names, places, sessions
+from radacctd_site.core import accounts, acts, names, places
+from radacctd_site.operator import sessions
 
 # How many days are shown, and how many lines of a list.
 DAYS, LINES = 30, 200

@@ -6,10 +6,11 @@ import json
 import time
 from unittest import mock
 
-from radacctd_site.core import Failed, acts, sessions
+from radacctd_site.core import Failed, acts
 from radacctd_site.core.acts import Act
 from radacctd_site.core.features import CASHIER, OPERATOR
 from radacctd_site.core.test_client import Site
+from radacctd_site.operator import sessions
 
 GB = 10**9
 

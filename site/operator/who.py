@@ -6,7 +6,8 @@ The desk is asked for each account, of 5,000 at most: that takes some seconds.
 import sys
 import time
 
-from radacctd_site.core import Failed, accounts, moment, places, sessions
+from radacctd_site.core import Failed, accounts, moment, places
+from radacctd_site.operator import sessions
 
 
 def main(_):

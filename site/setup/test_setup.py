@@ -20,7 +20,7 @@ import unittest
 from unittest import mock
 
 from radacctd_site.core import (
-    Failed, accounts, book, corrections, features, files, looks, machine, places, sessions, steps)
+    Failed, accounts, book, corrections, features, files, looks, machine, places, steps)
 from radacctd_site.setup import (
     answers, beside, check, config, devices, pages, server, setup_command)
 
@@ -618,11 +618,13 @@ class Check(Folder):
                 ([heard("lobby"), heard("front/nlobby", 3)], 0, ""))
         self.patch(places, book=lambda: None)
         for found, count, since in rows:
-            self.patch(sessions, of_all=lambda *_, it=found: it)
+            told = mock.Mock(side_effect=[[], found, *[[]] * 3])
+            self.patch(accounts, known=lambda: (dict.fromkeys([b"a", b"b", b"c"]), None), told=told)
             said = list(looks.silent(it for it in [("lobby", [b"lobby", b"\n\0\0\1"])]))
-            self.assertEqual(len(said), count, found)
+            self.assertEqual((len(said), told.call_count), (count, 2 + count), found)
             self.assertTrue(not said or f"lobby has reported nothing{since}" in said[0].text)
-        self.assertEqual(list(looks.silent([])), [])
+        self.patch(accounts, known=lambda: ({}, None))
+        self.assertEqual([len([*looks.silent(it)]) for it in ([], [("lobby", [b"lobby"])])], [0, 1])
 
     def test_no_cure_starts_a_server_whose_book_is_away(self):
         found = self.faults(lambda: [steps.Fault("unit-down", "x", "systemctl restart radacctd"),
