@@ -8,5 +8,5 @@ EACH_NIGHT = "copy_command:now"
 SETUP = LOOKS = "looks"
 WARNINGS = {
     "copy-old": "the last copy is older than 36 hours, or there is none",
-    "copy-bad": "a night's copy was refused, or lacks its sums, or none can be written",
+    "copy-bad": "a night's copy was refused, or none can be written",
 }

@@ -4,7 +4,7 @@ import os
 import time
 
 from radacctd_site.core.steps import Command, Fault
-from radacctd_site.copies import kept, places
+from radacctd_site.copies import places
 
 OLDEST = 36 * 3600
 NOW = "radacctl copy"
@@ -35,5 +35,3 @@ def look_at(*_):
     age = time.time() - os.stat(newest).st_mtime
     if age > OLDEST:
         yield Fault("copy-old", f"the last copy, {newest}, is {age / 3600:.0f} hours old", NOW)
-    if not os.path.exists(f"{newest}/{kept.SUMS}"):
-        yield Fault("copy-bad", f"{newest} has no {kept.SUMS}", NOW)

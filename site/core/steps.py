@@ -42,12 +42,6 @@ class Step:
         self.look, self.do = look or self.look, do or self.do
         vars(self).update(more)
 
-    def look(self):
-        raise NotImplementedError
-
-    def do(self):
-        raise NotImplementedError
-
     def holds(self):
         """What cannot be looked at yet is still to be done: a user whose package lacks, say."""
         try:

@@ -39,8 +39,6 @@ SETTINGS, CERTIFICATE = f"{FRONT}/settings.conf", f"{FRONT}/certs/server.pem"
 CONFIG, COPIES, BOOK = "/etc/radacctd.toml", "/var/backups/radacctd", "/var/lib/radacctd/book"
 SITE = "/var/lib/radacctd-site"
 USERS = f"runuser -u radacctd-site -- sqlite3 {SITE}/users.db"
-# A test that goes on over midnight has a copy of both days.
-LAST = f"$(ls -d {COPIES}/site-* | tail -1)"
 # A report with a wrong secret, straight to radacctd, and to FreeRADIUS.
 WRONG = "echo 'User-Name=a,Acct-Status-Type=Start,Acct-Session-Id=1"
 SENT = "radclient -r 1 -t 1 127.0.0.1:11813 acct wrong; journalctl --sync"
@@ -176,9 +174,8 @@ BREAKS = {
     "clock-unset": (f"{CLOCK} cp -a /usr/bin/timedatectl /root/kept; cat /root/clock > "
                     "/usr/bin/timedatectl", "cp -a /root/kept /usr/bin/timedatectl"),
     "copy-old": (f"touch -d '2 days ago' {COPIES}/site-*", f"touch {COPIES}/site-*"),
-    "copy-bad": (f"mv {LAST}/SHA256SUMS /root/kept", f"mv /root/kept {LAST}/SHA256SUMS"),
-    "copy-bad 2": (f"mount --bind {COPIES} {COPIES}; mount -o remount,bind,ro {COPIES}",
-                   f"umount {COPIES}"),
+    "copy-bad": (f"mount --bind {COPIES} {COPIES}; mount -o remount,bind,ro {COPIES}",
+                 f"umount {COPIES}"),
     "not-seen": ("mv /usr/bin/openssl /root/", "mv /root/openssl /usr/bin/"),
     # What only a try tells: all units run, and all files are right.
     "try-failed": (f"kill -STOP {RADIUS}", f"kill -CONT {RADIUS}"),
