@@ -434,15 +434,15 @@ class Command(Desk):
         """By the lines of the page. Of two names of one number one is credited, and it is said."""
         with open(f"{places.TOP}/desk/README.md", encoding="utf-8") as file:
             lines = re.search(r"(?ms)^    (\(echo .*?\)) \| radacctl sell", file.read())[1]
-        with open(f"{self.folder}/students", "w", encoding="utf-8") as file:
-            file.write("al\nbo@a.example\n")
+        with open(f"{self.folder}/students.csv", "w", encoding="utf-8") as file:
+            file.write("1,al\n2,bo@a.example\n")
         made = lambda: subprocess.check_output(["sh", "-c", lines], cwd=self.folder, text=True)
         for _ in range(2):
             self.credit(made(), "--unpaid")
-            self.assertEqual(self.book.balances(), {b"al": 500, b"bo@a.example": 500})
-        self.credit(made().replace("2026-12", "2027-01"), "--unpaid")
-        self.assertEqual(self.book.balances(), {b"al": 1000, b"bo@a.example": 1000})
+            self.assertEqual(self.book.balances(), {b"al": 2000, b"bo@a.example": 2000})
+        self.credit(re.sub(r"M-\d{4}-\d\d", "M-2027-01", made()), "--unpaid")
+        self.assertEqual(self.book.balances(), {b"al": 4000, b"bo@a.example": 4000})
         self.assertEqual(self.run_it("sales"), "")
         with open(file.name, "a", encoding="utf-8") as file:
-            file.write("bo.a.example\n")
+            file.write("2,bo.a.example\n")
         self.assertRaisesRegex(Failed, "bo.a.example: differs", self.credit, made())
