@@ -7,8 +7,10 @@ A sentence with a word such as "never", "always" or "charged once" is followed b
 The words after the path stand in that file, as the name of a row or in a clause. So a promise whose
 test or clause goes, or is renamed, is found. In some parts each row or item has such a mark,
 whatever its words: what one can rely on, what is not found, what is only tested. Who promises that
-a report is charged once says what carrying forward does to that. An instruction ("Never copy one
-file alone") is no promise. If a sentence only looks like one, `<!-- no promise -->` follows it.
+a report is charged once says what carrying forward does to that. Who promises something of a pair,
+of Debian 13, of a slow disk or of FreeRADIUS in front names a script of interop that ran there. An
+instruction ("Never copy one file alone") is no promise. If a sentence only looks like one,
+`<!-- no promise -->` follows it.
 """
 
 import os
@@ -39,6 +41,11 @@ PROMISE = re.compile(
 # What carrying forward does to a report that comes again; and those that come again at once.
 ONCE, CARRIED = re.compile(r"charged\s+once", re.I), re.compile(r"carried\s+forward|`forward`")
 AT_ONCE = re.compile(r"If its sync\s+failed")
+# Where a promise says that it holds, and what a script of interop has that ran there.
+CASES = {
+    r"\b(?:in|of) a pair\b": "[pair]", r"\bon Debian 13\b": "RADACCTD_SUITE",
+    r"\bon a slow disk\b": "slow disk", r"\b(?:through|behind) FreeRADIUS\b": "FreeRADIUS",
+}
 # Parts of which each row, or each item, names what holds it.
 WHOLE = (
     ("docs/proofs/AUDIT.md", "What is only tested", "row"),
@@ -60,7 +67,9 @@ def page_of(name):
 
 
 def found_in(text):
-    """The promises of a block: where each begins, and where the next one does."""
+    """The promises of a block: where the sentence of each begins, where it does, and where the next
+    one does.
+    """
     # The name of a heading or a file promises nothing.
     bare = re.sub(r"`[^`]*`|\]\([^)]*\)|<!--.*?-->", lambda it: "_" * len(it[0]), text, flags=re.S)
     places = []
@@ -71,8 +80,8 @@ def found_in(text):
         ):
             places.append((begun, found.start()))
     whole = [place for at, place in enumerate(places) if not at or place[0] != places[at - 1][0]]
-    for at, (_, start) in enumerate(whole):
-        yield start, whole[at + 1][1] if at + 1 < len(whole) else len(text)
+    for at, (begun, start) in enumerate(whole):
+        yield max(begun, 0), start, whole[at + 1][1] if at + 1 < len(whole) else len(text)
 
 
 def fault_of(mark, tree):
@@ -115,7 +124,8 @@ def check(checker):
 
 def check_block(checker, block):
     marks = list(MARK.finditer(block.text))
-    for start, end in found_in(block.text):
+    for begun, start, end in found_in(block.text):
+        check_cases(checker, block, begun, start, end)
         # The mark of a later sentence holds no promise of this one.
         places = [it.start() for it in marks if start <= it.start() < end]
         if all(re.search(r"\.\s+\S", block.text[start:it].rstrip()) for it in places):
@@ -125,6 +135,17 @@ def check_block(checker, block):
         if ONCE.search(said) and not CARRIED.search(said) and not AT_ONCE.search(block.text):
             checker.find(block.line_at(start), "charged once: what if it was carried forward?")
     check_marks(checker, block)
+
+
+def check_cases(checker, block, begun, start, end):
+    """A promise of a case names a script of interop that has it. A row has its case in any cell."""
+    said = block.text if block.kind == "row" else block.text[begun:end]
+    held = [it[1] for it in MARK.finditer(block.text[start:end]) if it[1]]
+    for case, has in CASES.items():
+        found = re.search(case, re.sub(r"\s+", " ", plain(said)), re.I)
+        scripts = (checker.tree.scripts.get(it, "") for it in held if it.startswith("interop/"))
+        if found and not any(has in it for it in scripts):
+            checker.find(block.line_at(start), f"`{found[0]}`: which row of interop ran there?")
 
 
 def check_marks(checker, block):
