@@ -10,7 +10,8 @@ from claims_lib.promises import OPERATORS, page_of
 from claims_lib.tree import text_of
 from claims_lib.typed import BY_HAND, RUN
 
-COMMAND = re.compile(r"^\s*(?:systemctl|radacctd|apt|apt-get|sqlite3|nginx|freeradius)\b", re.M)
+COMMAND = re.compile(r"^\s*(?:systemctl|radacctd|radacctl|runuser|scp|apt|apt-get|sqlite3|nginx"
+                     r"|freeradius)\b", re.M)
 # A path of the repository in a command: on these pages it is meant so.
 FROM_REPOSITORY = ("README",)
 OF_REPOSITORY = re.compile(r"^\s*(?:sudo )?((?:bin|interop|bench|crates|\.ci)/[\w.-]+)", re.M)

@@ -18,7 +18,11 @@ BY_HAND = {
     "docs/GONE": "each way needs damage of its own; interop/flips and interop/telling make some of it",
     "docs/TROUBLE": "each symptom is another; crates/acct_program_tests makes what is explained",
     "site/desk/README": "site/desk/live.py gives its commands; interop/queries runs that of a month",
+    "site/front/README": ".ci/tool_tests types the import and the removal of users; interop/moved "
+                         "moves a table; site/front/test_cut.py ends sessions",
     "site/monitor/README": "site/monitor/live.py has promtool, and no machine of Prometheus",
+    "site/packages/README": "site/packages/live.py gives its commands with names of its own",
+    "site/vouchers/README": "interop/redeeming.py and interop/gone give its commands",
 }
 
 

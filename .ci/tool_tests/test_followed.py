@@ -4,7 +4,12 @@ scripts need machines, and run seldom; who shortens a page sees here in a second
 
 import os
 import re
+import shutil
+import sqlite3
+import subprocess
 import sys
+import tempfile
+import textwrap
 import unittest
 
 from tool_tests import ROOT
@@ -13,6 +18,7 @@ sys.path.insert(0, os.path.join(ROOT, "interop"))
 
 import page_steps
 import service
+from claims_lib.pages import blocks_of
 
 # A page, a part of it, all of its steps, and those with commands that a script types.
 STEPS = (
@@ -58,6 +64,31 @@ class Followed(unittest.TestCase):
         lines = re.findall(r"(?m)^ {7}(\S.*)$", text)
         self.assertEqual(first_words(lines)[:3], ["apt", "apt", "radacctl"])
         self.assertEqual(lines[-1], "radacctl setup --check")
+
+    @unittest.skipUnless(shutil.which("sqlite3"), "no sqlite3")
+    def test_users_are_imported_and_removed(self):
+        front = blocks_of(text_of("../site/front/README"))
+        put, remove = [textwrap.dedent(it.text) for it in front
+                       if it.text.startswith("    runuser ")]
+        with tempfile.TemporaryDirectory() as folder, \
+                sqlite3.connect(f"{folder}/users.db") as users:
+            for table, columns in (("radcheck", "username, attribute, op, value"),
+                                   ("radusergroup", "username, groupname, priority")):
+                users.execute(f"CREATE TABLE {table} (id INTEGER PRIMARY KEY, {columns})")
+            with open(f"{folder}/users.csv", "w", encoding="utf-8") as file:
+                file.write('al,secret,fast\n"Müller b","1, 2",fast\nbo,other,\n')
+            for command, there in ((put, ["al", "Müller b", "bo"]),
+                                   (remove.partition("\necho ")[0], ["Müller b", "bo"])):
+                command = command.replace("runuser -u radacctd-site -- ", "")
+                command = command.replace("/var/lib/radacctd-site/", "")
+                subprocess.run(["sh", "-ec", command], cwd=folder, check=True)
+                rows = users.execute("SELECT * FROM radcheck JOIN radusergroup USING (username)")
+                names = users.execute("SELECT username FROM radcheck").fetchall()
+                self.assertEqual([it for it, in names], there)
+                self.assertEqual({it[1:5] + it[6:] for it in rows}, {
+                    (name, "Cleartext-Password", ":=", word, "fast", 1)
+                    for name, word in (("al", "secret"), ("Müller b", "1, 2"))
+                    if name in there})
 
 
 if __name__ == "__main__":
