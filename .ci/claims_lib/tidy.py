@@ -1,7 +1,8 @@
-"""How much in crates/ is too long: counts that only fall.
+"""How much in crates/ is too long, or said in other words than elsewhere: counts that only fall.
 
 tidy.csv has the most of each: more than 7 parameters of functions and definitions, not of lemmas;
-bodies above 40 lines, also of lemmas; clauses above 10 lines; lines above 100 columns.
+bodies above 40 lines, also of lemmas; clauses above 10 lines; lines above 100 columns; comments of
+sources that are no full sentence; words of comments in British spelling, and private ones.
 """
 
 import csv
@@ -15,6 +16,19 @@ FUNCTION = re.compile(r"^( *)(?:pub(?:\([a-z]+\))? )?(?:const )?fn \w+(?:<[^(]*>
 CONTRACT = re.compile(r"^ *(?:ensures|requires)(?: \w+)? \{", re.M)
 DEFINED = (r"^( *)(?:pub )?((?:abbrev|unfoldable|record|data) (?!\{))*"
            r"(?:pub )?(?(2)\S|[^\s(){}:]+ :\s)")
+# Comments of a kind of file begin so. A list of tests or options has some that are a few words.
+COMMENT = {".rt": "//", ".antt": "--"}
+SENTENCE = re.compile(r"\W*[A-Z0-9`].*[.:!?][)`\"]*")
+WORDS = {
+    "spelling": re.compile(
+        r"\b(?:(?:behavi|col|fav|flav|hon|lab|neighb)our\w*|judgement\w*|analys(?:e|es|ed|ing)"
+        r"|(?:author|categor|general|initial|minim|maxim|normal|optim|organ|random|real|recogn"
+        r"|serial|summar|synchron|util)is(?:e|es|ed|ing|ation)|grey|whilst|artefact\w*|defence"
+        r"|(?:cancel|label|model|signal|travel)l(?:ed|ing)|cent(?:re|red|res)|licence\w*"
+        r"|catalogue\w*|programme\w*)\b", re.I),
+    "words": re.compile(r"\b(?:tells?|told|hears?|heard|rous(?:e|es|ed)|looks? round|meanwhile)\b",
+                        re.I),
+}
 
 
 def to_its_end(text, opening, closing):
@@ -63,13 +77,24 @@ def in_definitions(text):
             yield "bodies", head.start()
 
 
+def in_comments(text, mark):
+    """The comments that are no sentence, and words to be replaced, by their place."""
+    for found in re.finditer(rf"(?m)(?:^[ \t]*{mark}.*\n)+", text):
+        said = " ".join(re.sub(rf"(?m)^[ \t]*{mark}[/!]?", "", found[0]).split())
+        if mark == COMMENT[".rt"] and said and not SENTENCE.fullmatch(said):
+            yield "sentences", found.start()
+        for kind, words in WORDS.items():
+            yield from ((kind, found.start() + it.start()) for it in words.finditer(found[0]))
+
+
 def counts_of(tree):
     """The most of each kind, and the places that are too long now."""
     most = {row["kind"]: int(row["most"]) for row in csv.DictReader(text_of(LIMITS).splitlines())}
     found = {kind: [] for kind in most}
     for path in (it for it in tree.files if re.match(r"crates/.*\.(?:rt|antt)$", it)):
         text = text_of(path)
-        for kind, at in in_code(text) if path.endswith(".rt") else in_definitions(text):
+        long = in_code(text) if path.endswith(".rt") else in_definitions(text)
+        for kind, at in (*long, *in_comments(text, COMMENT[os.path.splitext(path)[1]])):
             found[kind].append((path, text.count("\n", 0, at) + 1))
         sizes = enumerate(map(len, text.split("\n")), 1)
         found["lines"] += [(path, line) for line, size in sizes if size > COLUMNS]
@@ -81,7 +106,7 @@ def check(checker):
     most, found = counts_of(checker.tree)
     for kind, places in found.items():
         for checker.page, line in places if len(places) > most[kind] else ():
-            checker.find(line, f"{kind}: {len(places)} are too long, at most {most[kind]} may be")
+            checker.find(line, f"{kind}: {len(places)} here, at most {most[kind]} may be")
 
 
 def write(tree):
