@@ -50,6 +50,9 @@ KEPT = {
         "FreeRADIUS keeps them, and sends them later",
         "that report is lost until the session's next report",
         "what it used since the last answered one is lost",
+        "a Stop of a MikroTik, which tries for seconds",
+        "a pair's last seconds, if a disk is lost",
+        "what a report that was set aside says, until somebody mends its cause",
         "do not sell it again",
     ),
     "docs/proofs/AUDIT.md": (
