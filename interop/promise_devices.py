@@ -170,7 +170,7 @@ def extended(rng):
 def wrong(rng):
     """Attributes of a wrong form, by which nothing is charged."""
     return rng.choice([[(42, b"\1\2")], [(43, b"\1\2\3")], [(52, 1 << 31)],
-                       [(53, 1 << 31)], [(8, b"\x0a\1\2")], [(49, b"\1")]])
+                       [(53, 1 << 31)], [(8, b"\x0a\1\2")], [(46, bytes(8))], [(49, b"\1")]])
 
 
 class Devices(threading.Thread):

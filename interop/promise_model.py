@@ -22,9 +22,8 @@ PLANS = {
 UNSTAMPED, STAMP_SECRET, LONGEST = b"free", b"stamp-secret-of-tests", 253
 SAID = set(b"ABCDEFGHIJKLMNOPQRSTUVWXYZabcdefghijklmnopqrstuvwxyz0123456789._-")
 START, STOP, INTERIM = 1, 2, 3
-# A report of a wrong form is never answered, and not charged if its octets are wrong. If radacctd is
-# away, it is kept without another attribute that is wrong, and charged.
-FINE, WRONG, OCTETS = "fine", "wrong", (42, 43, 52, 53)
+# A report of a wrong form is never answered, and not charged.
+FINE, WRONG = "fine", "wrong"
 # By how many seconds the moment of a session may be another one in the book.
 EDGE = 5
 # By how many seconds radacctd's own clock is set off at most, and a minute more.
@@ -229,7 +228,7 @@ class Model:
 def row_faults(session, row):
     """Of a session, and of its row in the book, which may be missing."""
     least, most = session.least(), session.most()
-    if session.kind == WRONG and (least is not None or row and session.form[0][0] in OCTETS):
+    if session.kind == WRONG and (least is not None or row):
         yield "of a wrong form, and answered or charged", session
     elif row is None:
         if least is not None:

@@ -49,7 +49,7 @@ class Campus(lab.Lab):
                 os.path.join(self.raddb, name), os.path.join(self.stock, link, "radacctd-front")
             )
         with open(os.path.join(self.stock, "dictionary"), "a", encoding="ascii") as file:
-            file.write(f"$INCLUDE {self.raddb}/attributes\n")
+            file.write(f"$INCLUDE {self.raddb}/attributes-own\n")
         with open(
             os.path.join(self.stock, "mods-config/files/authorize"), "w", encoding="ascii"
         ) as file:

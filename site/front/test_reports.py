@@ -274,15 +274,29 @@ class Exact(OneLab):
                     )
                     self.assertLess(abs(now - int(row["last"])), 60)
 
+    WRONG = ((42, b"abc"), (43, bytes(5)), (52, b"\1"), (53, bytes(8)), (46, bytes(8)), (49, b"\1"),
+             (8, b"\x0a\0\1"), (8, bytes(16)))
+
     def test_a_wrong_size_is_not_taken(self):
-        it, wrong = self.lab, [(STATUS, STOP), (ID, "w"), (USER, "al"), (42, b"abc"), (43, 7)]
-        self.assertFalse(it.report(wrong, wait=1))
+        """It is refused as radacctd refuses it, also once it was kept."""
+        it = self.lab
+        for n, pair in enumerate(self.WRONG):
+            wrong = [(STATUS, STOP), (ID, f"w{n}"), (USER, "al"), (NAS_NAME, "ap"), pair]
+            self.assertFalse(it.report(wrong, wait=0.2))
+        self.assertTrue(waited(lambda: it.waiting("aside") == len(self.WRONG), 200))
+        self.assertEqual((it.waiting(), self.rows()), (0, {}))
+
+    def test_what_is_lost_of_a_kept_report(self):
+        """A delay of a wrong form, and a device's address, which is no device then."""
+        it, one, two = self.lab, (41, b"\7"), (radius.NAS_ADDRESS, b"\x0a\0\1")
         it.stop_book()
-        self.quick(wrong, 1)
-        self.assertTrue(waited(lambda: it.waiting() == 1))
+        self.quick([*report("late"), one], 1)
+        self.quick([(STATUS, STOP), (ID, "where"), (USER, "al"), (42, 1000), two], 1)
+        self.assertTrue(waited(lambda: it.waiting() == 2))
         it.start_book()
-        self.assertTrue(waited(lambda: it.waiting("aside") == 1))
-        self.assertEqual(self.rows(), {})
+        self.assertTrue(waited(lambda: set(self.rows()) == {"late", "where"}))
+        self.assertEqual(self.rows()["where"]["client"].rstrip("/"), "front")
+        self.assertLess(abs(time.time() - int(self.rows()["late"]["last"])), 60)
 
     def test_names_without_a_stamp(self):
         it = self.lab

@@ -23,7 +23,7 @@ import urllib.parse
 ENCODED = "ABCDEFGHIJKLMNOPQRSTUVWXYZabcdefghijklmnopqrstuvwxyz0123456789._-"
 STAMP = re.compile(rb"(([A-Za-z0-9._%-]*);([0-9a-f]{0,32});([A-Za-z0-9._%-]*);)([0-9a-f]{32})")
 USER, CLASS, ID, STATUS, STATION, NAS_ADDRESS, NAS_NAME = 1, 25, 44, 40, 31, 4, 32
-LIMIT = 1 << 62
+NUMBERS, LIMIT = (STATUS, 8, 41, 42, 43, 46, 49, 52, 53), 1 << 62
 TABLES = """
 CREATE TABLE session (client TEXT, id BLOB, own BLOB, account BLOB, class BLOB, input INT, output INT,
   last INT, state TEXT, station BLOB, framed TEXT, PRIMARY KEY (client, id));
@@ -115,7 +115,7 @@ class Book:
         first = {}
         for kind, value in pairs:
             first.setdefault(kind, value)
-        if any(len(first.get(kind, bytes(4))) != 4 for kind in (STATUS, 41, 42, 43, 52, 53)):
+        if any(len(first.get(kind, bytes(4))) != 4 for kind in NUMBERS):
             return False
         number = lambda kind: int.from_bytes(first.get(kind, b""), "big")
         device = client["name"]
