@@ -10,7 +10,6 @@ import urllib.parse
 import served
 from served import CASHIER, check, plan, text_of, until
 
-MEBIBYTE = 1 << 20
 SECRET, BOOK_SECRET = "testing-123", "testing-456"
 # Debian's configuration of FreeRADIUS, and its virtual servers.
 STOCK = "/etc/freeradius/3.0"
@@ -52,7 +51,7 @@ class Book(served.Server):
     """radacctd, with a client for each access server."""
 
     def __init__(self, folder):
-        self.folder, self.balances = folder, os.path.join(folder, "balances.csv")
+        self.folder = folder
         super().__init__(folder, self.configuration(), "")
         subprocess.run(self.words("init"), check=True, stdout=subprocess.DEVNULL)
 
@@ -63,10 +62,8 @@ class Book(served.Server):
                               f'account = "{urllib.parse.quote(it, safe="")}"\n'
                               for it in ACCOUNTS)
 
-    def start(self, *more):
-        words = [*self.serve(), "--balances", self.balances, "--balances-every", "1", *more]
-        self.process = subprocess.Popen(words, stdout=subprocess.PIPE, text=True)
-        check("radacctd serves", self.process.stdout.readline(), "serving\n")
+    def start(self):
+        super().start(served.FOREVER)
 
     def balance(self, account):
         return self.ask("GET", "/me/balance", key_of(account))[1]["balance"]

@@ -1,16 +1,17 @@
-"""Load, hanging desks, outages, starts and stops: minutes each. Over the program or its stand-in. Needs root."""
+"""Load, hanging desks, starts and stops: minutes each. Over the program or its stand-in. Needs root."""
 import collections
 import os
-import random
+import re
 import select
 import socket
+import subprocess
 import threading
 import time
 import unittest
 
 import test_lab as lab
 import test_radius as radius
-from test_radius import CLASS, ID, NAS_NAME, STATUS, STOP, USER
+from test_radius import ID, NAS_NAME, STATUS, STOP, USER
 
 
 class HangingDesk(threading.Thread):
@@ -117,67 +118,14 @@ class Desks(unittest.TestCase):
             self.assertEqual(ended, {"accept": 400})
 
 
-class Outage(unittest.TestCase):
-    """Devices that give up after a second: what was answered is in the book, and all is charged."""
-
-    def device(self, n, given, seconds):
-        time.sleep(random.random() * seconds)
-        source = f"127.0.{1 + n // 200}.{1 + n % 200}"
-        pairs = [(STATUS, STOP), (ID, f"s{n}"), (USER, "al"), (42, 1000 + n), (CLASS, given)]
-        packet = radius.report_packet([*pairs, (NAS_NAME, f"ap-{n % 50}")])
-        if radius.asked(self.lab.reports, packet, source, tries=3, wait=0.3).code == 5:
-            self.answered.add(f"s{n}")
-
-    def devices(self, count, seconds, wrong):
-        """So many in so many seconds, while something is wrong with the book."""
-        it, self.answered = self.lab, set()
-        it.group("fast", Class="gold")
-        it.user("al", "fast")
-        it.sell("al", 10**6)
-        given = radius.first(it.login(), CLASS)
-        wrong()
-        threads = [
-            threading.Thread(target=self.device, args=(n, given, seconds)) for n in range(count)
-        ]
-        [thread.start() for thread in threads]
-        [thread.join() for thread in threads]
-
-    def charged(self, count, longest):
-        """How long it takes until each is charged, once."""
-        it, start = self.lab, time.time()
-        self.assertTrue(lab.waited(lambda: len(it.sessions()) == count, longest))
-        total = sum(1000 + n for n in range(count))
-        self.assertEqual(sum(int(row["total"]) for row in it.sessions()), total)
-        self.assertEqual(it.balances()["al"], 10**6 - count * 10)
-        return round(time.time() - start, 1)
-
-    def test_300_devices_in_an_outage(self):
-        seconds = int(os.environ.get("OUTAGE", "60"))
-        with lab.Lab() as self.lab:
-            it = self.lab
-            self.devices(300, seconds - 6, it.stop_book)
-            self.assertEqual(self.answered, set())
-            self.assertTrue(lab.waited(lambda: it.waiting() == 300, 10), it.waiting())
-            it.start_book()
-            took = self.charged(300, 30)
-            print(f"300 devices in {seconds} s of outage, over {lab.OVER}: answered 0, all charged "
-                  f"after {took} s", flush=True)
-
-    @unittest.skipUnless(lab.PROGRAM, "the stand-in does not sync")
-    def test_a_slow_disk(self):
-        for sync in (20, 200, 1000):
-            with self.subTest(sync=sync), lab.Lab() as self.lab:
-                it = self.lab
-                self.devices(100, 20, lambda: it.slow_down(sync))
-                answered = {row["session"].partition("/")[0] for row in it.sessions()}
-                self.assertLessEqual(self.answered, answered)
-                took = self.charged(100, 400)
-                print(f"a sync takes {sync} ms: {len(self.answered)} of 100 answered in a second, "
-                      f"all charged after {took} s, {it.waiting('aside')} set aside", flush=True)
-
-
 class Ends(unittest.TestCase):
     """It ends when it is told, and not before."""
+
+    @staticmethod
+    def patience():
+        """How long systemd waits for a stop before it kills, in seconds."""
+        with open(os.path.join(lab.HERE, "units/radacctd-front.service"), encoding="utf-8") as file:
+            return int(re.search(r"(?m)^TimeoutStopSec=(\d+)$", file.read())[1])
 
     def test_starts_and_stops(self):
         count, longest = int(os.environ.get("STARTS", "10")), 0
@@ -198,8 +146,8 @@ class Ends(unittest.TestCase):
                 begun = time.time()
                 it.front.terminate()
                 try:
-                    it.front.wait(5)
-                except Exception:
+                    it.front.wait(self.patience())
+                except subprocess.TimeoutExpired:
                     it.front.kill()
                     it.front.wait()
                 longest = max(longest, time.time() - begun)

@@ -63,12 +63,12 @@ def login_packet(name, password, more=(), chap=False, number=None):
     return bytes([1, number]) + struct.pack(">H", 20 + len(body)) + random + body
 
 
-def report_packet(pairs, number=None):
+def report_packet(pairs, number=None, secret=SECRET):
     body = packed(pairs)
     head = bytes([4, os.urandom(1)[0] if number is None else number]) + struct.pack(
         ">H", 20 + len(body)
     )
-    return head + hashlib.md5(head + bytes(16) + body + SECRET).digest() + body
+    return head + hashlib.md5(head + bytes(16) + body + secret).digest() + body
 
 
 def opened(source, port):
