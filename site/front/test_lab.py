@@ -187,7 +187,7 @@ class Lab:
     def certificates(self):
         certs = os.path.join(self.raddb, "certs")
         os.makedirs(certs)
-        made = os.path.join("/tmp/front", "authority")
+        made = os.path.join("/tmp/front", "authorities")
         if not os.path.isdir(made):
             os.makedirs(made + ".new", exist_ok=True)
             run = lambda *it: subprocess.run(
@@ -201,6 +201,8 @@ class Lab:
                 request, subject = name + ".csr", f"/CN={name}" if name else "/"
                 run("req", *key, name + ".key", "-out", request, "-subj", subject)
                 run("x509", "-req", "-in", request, *by, *days, name + ".pem")
+            # Another authority, which FreeRADIUS does not know, names al.
+            run("req", "-x509", *key, "foreign.key", *days, "foreign.pem", "-subj", "/CN=al")
             os.rename(made + ".new", made)
         for name in ("ca.pem", "server.pem", "server.key"):
             shutil.copy(os.path.join(made, name), certs)
@@ -256,10 +258,11 @@ class Lab:
         )
         assert self.book.stdout.readline().startswith(b"serving")
 
-    def slow_down(self, milliseconds):
-        """From now on each sync of the book takes so long."""
+    def slow_down(self, milliseconds, process=None):
+        """From now on each sync of the book, or of another process, takes so long."""
+        pid = (process or self.book).pid
         words = ["strace", "-f", "-q", "-e", "trace=fsync,fdatasync", "-o", "/dev/null", "-e"]
-        words += [f"inject=fsync,fdatasync:delay_exit={milliseconds}ms", "-p", str(self.book.pid)]
+        words += [f"inject=fsync,fdatasync:delay_exit={milliseconds}ms", "-p", str(pid)]
         self.others.append(subprocess.Popen(words, stdout=subprocess.PIPE))
         time.sleep(1)
 

@@ -1,9 +1,14 @@
 """Who is let in, who pays, how much: attacks on a front over the program or its stand-in.
 Needs root, freeradius, freeradius-rest, freeradius-utils, eapoltest."""
+import contextlib
 import hashlib
+import http.server
 import os
 import re
+import shutil
 import sqlite3
+import subprocess
+import threading
 import time
 import unittest
 
@@ -42,6 +47,15 @@ def stamps(text):
     )
     assert len(it) == 1, it
     return bytes.fromhex(it[0]).decode("latin-1").rsplit(";", 1)[0]
+
+
+def nothing_has(it, *texts):
+    """No file of a lab has a text, but that of a device."""
+    for root, _, names in os.walk(it.folder):
+        for name in set(names) - {"eap.conf"}:
+            with open(os.path.join(root, name), "rb") as file:
+                text = file.read()
+            assert not [it for it in texts if it in text], name
 
 
 class OneLab(unittest.TestCase):
@@ -110,8 +124,8 @@ class Proved(OneLab):
         it.user("stranger", "up")
         self.assertEqual(shown("al", "somebody-else"), "gold;;al")
         self.assertEqual(shown("stranger"), "up;;stranger")
-        # One without a name is nobody's.
-        self.assertEqual(shown(""), "FAILURE")
+        # One without a name is nobody's, and one of another authority, too.
+        self.assertEqual([shown(""), shown("foreign")], ["FAILURE"] * 2)
         it.user("stranger", Auth_Type="Reject")
         self.assertEqual(shown("stranger"), "FAILURE")
         it.users.execute("DELETE FROM radcheck WHERE username = 'stranger'")
@@ -175,6 +189,18 @@ class Proved(OneLab):
             [(245, bytes([26, 0, 0, 0, 0, 11]))],
         ):
             self.assertEqual(stamp(it.login(more=more)), "gold;;al")
+
+    def test_no_password_is_kept(self):
+        """Debian's query of radpostauth keeps them in clear."""
+        it = self.lab
+        it.user("secret", "free", Cleartext_Password="never-kept-1")
+        for chap in (False, True):
+            self.assertEqual(it.login("secret", "never-kept-1", chap=chap).code, 2)
+            self.assertEqual(it.login("secret", "never-kept-2", chap=chap).code, 3)
+        nothing_has(it, b"never-kept-2")
+        it.users.execute("DELETE FROM radcheck WHERE username = 'secret'")
+        it.users.execute("VACUUM")
+        nothing_has(it, b"never-kept-1")
 
     def test_two_names(self):
         self.assertEqual(stamp(self.lab.login(more=[(radius.USER, "stranger")])), "gold;;al")
@@ -383,6 +409,16 @@ class Plans(OneLab):
         it.sell("odd", 1000)
         self.assertEqual(radius.first(it.login("odd"), 18), value[1:].encode())
 
+    def test_a_fixed_address(self):
+        """An address of a reply is one, though that of a report is octets."""
+        it = self.lab
+        it.user("fixed", "free", Cleartext_Password="right")
+        it.row(it.users, "radreply", "fixed", "Framed-IP-Address", "10.5.0.7")
+        for more in ([], [(8, bytes(4))], [(8, bytes(16))]):
+            self.assertEqual(radius.first(it.login("fixed", more=more), 8), b"\x0a\5\0\7")
+        text = it.eap("PEAP", "fixed", "x", "right", "auth=MSCHAPV2")
+        self.assertIn("Value: 10.5.0.7", text.rpartition("(Access-Accept)")[2])
+
     def test_slow_in_place_of_the_end(self):
         it = self.lab
         it.group("dsl", [("Front-Slow", "crawl")], Class="gold", Mikrotik_Rate_Limit="50M/50M")
@@ -427,16 +463,7 @@ class Codes(OneLab):
         digest = hashlib.sha256(b"key-of-codesABCDEFGHJKMNPQR").hexdigest()
         self.assertEqual(it.login(digest, digest).code, 3)
         self.assertEqual(it.login(digest, "").code, 3)
-        self.nothing_has(b"ABCDE", b"abcde")
-
-    def nothing_has(self, *texts):
-        for root, _, names in os.walk(self.lab.folder):
-            for name in names:
-                with open(os.path.join(root, name), "rb") as file:
-                    text = file.read()
-                for it in texts:
-                    if name != "eap.conf":
-                        self.assertNotIn(it, text, name)
+        nothing_has(it, b"ABCDE", b"abcde")
 
     def test_a_code_without_a_plan(self):
         it = self.lab
@@ -548,6 +575,101 @@ class Down(OneLab):
         it.start_book()
         time.sleep(1.5)
         self.assertEqual(it.login().code, 2)
+
+
+class OddDesk(http.server.BaseHTTPRequestHandler):
+    """Another server where the desk was: it gives each request the same status and body."""
+
+    says = 200, ""
+
+    def do_GET(self):
+        status, body = self.says
+        self.send_response(status)
+        self.send_header("Content-Length", str(len(body)))
+        self.send_header("Location", self.path)
+        self.end_headers()
+        self.wfile.write(body.encode())
+
+    def log_message(self, *_):
+        pass
+
+
+class Odd(unittest.TestCase):
+    """A 200 that is understood is a yes, 402 and 422 are a no, all else is silence."""
+
+    RIGHT = '{"counted":"total","octets":5,"open":0,"stamp":"free;;al;x","stations":0}'
+    ROWS = (
+        (200, RIGHT, "free;;al"), (402, RIGHT, "no"), (422, RIGHT, "no"),
+        *((status, RIGHT, None) for status in (201, 204, 302, 400, 401, 404, 429, 500, 503)),
+        *((200, body, None) for body in (
+            "", "yes", "<html>", RIGHT + " ", RIGHT[:-1], RIGHT.replace(":0", ": 0"),
+            RIGHT.replace("total", "all"), RIGHT.replace(":5", ":-5"), "x" + RIGHT, RIGHT * 2)),
+    )
+
+    def test_odd_answers(self):
+        it = lab.Lab(down_seconds=60)
+        server = http.server.ThreadingHTTPServer(("127.0.0.1", 0), OddDesk)
+        it.ask = server.server_address[1]
+        threading.Thread(target=server.serve_forever, daemon=True).start()
+        try:
+            it.start_front()
+            print(f"{type(self).__name__}: over a desk of the test", flush=True)
+            for status, body, wanted in self.ROWS:
+                OddDesk.says = status, body
+                with self.subTest(status=status, body=body):
+                    reply = it.login()
+                    self.assertEqual((reply.code, stamp(reply)),
+                                     (3, None) if wanted == "no" else (2, wanted))
+                    # Whom silence lets in has a minute.
+                    self.assertEqual(radius.first(reply, 27) is None, wanted is not None)
+        finally:
+            it.end()
+            server.shutdown()
+
+
+class Disk(unittest.TestCase):
+    """The disk of FreeRADIUS is full, or slow."""
+
+    def setUp(self):
+        self.lab = it = lab.Lab()
+        size = "size=64k,mode=0700,uid=freerad,gid=freerad"
+        subprocess.run(["mount", "-t", "tmpfs", "-o", size, "none", it.kept], check=True)
+        for name in ("waits", "aside", "again", "lost"):
+            os.makedirs(os.path.join(it.kept, name))
+            shutil.chown(os.path.join(it.kept, name), "freerad", "freerad")
+        it.start_book()
+        it.start_front()
+        print(f"{self.id().partition('.')[2]}: over {lab.OVER}", flush=True)
+        it.group("day", [("Front-Valid", "300")], Class="free")
+        it.group("free", Class="free")
+        it.user("first", "day", Cleartext_Password="right")
+        it.user("al", "free")
+
+    def tearDown(self):
+        self.lab.stop_front()
+        subprocess.run(["umount", "-l", self.lab.kept], check=True)
+        self.lab.end()
+
+    def test_a_first_login_on_a_full_disk(self):
+        it, path = self.lab, os.path.join(self.lab.kept, "filler")
+        with open(path, "wb", 0) as file, contextlib.suppress(OSError):
+            while True:
+                file.write(bytes(512))
+        self.assertEqual((it.login("first").code, it.login().code), (3, 2))
+        os.remove(path)
+        self.assertEqual(int.from_bytes(radius.first(it.login("first"), 27), "big"), 300)
+
+    def test_nobody_waits_for_a_slow_disk(self):
+        """But for a first login: 32 threads could otherwise wait, and no other is answered."""
+        it = self.lab
+        it.slow_down(1000, it.front)
+        for n in range(50):
+            self.assertEqual(it.login(wait=0.9).code, 2)
+            pairs = [(radius.STATUS, 2), (radius.ID, f"s{n}"), (radius.USER, "al")]
+            self.assertTrue(it.report([*pairs, (radius.NAS_NAME, "ap")], wait=0.9))
+        begun = time.time()
+        self.assertEqual(it.login("first", wait=20).code, 2)
+        self.assertGreater(time.time() - begun, 1)
 
 
 class Open(OneLab):

@@ -1,4 +1,5 @@
 """Two machines: what one book took is in the other. Over the program or its stand-in. Needs root."""
+import glob
 import os
 import random
 import shutil
@@ -13,6 +14,9 @@ sys.path.insert(0, os.path.join(os.path.dirname(HERE), "front"))
 import test_lab as lab
 import test_radius as radius
 from test_radius import CLASS, ID, NAS_NAME, STATUS, STOP, USER
+
+
+CLOCK = glob.glob("/usr/lib/*/faketime/libfaketimeMT.so.1")
 
 
 class Machine(lab.Lab):
@@ -46,6 +50,14 @@ class Machine(lab.Lab):
                 ("port = 11814", f"port = {self.port}"),
             ],
         )
+
+    def front_words(self):
+        """The clock of the second machine's FreeRADIUS is 40 s behind."""
+        words, folder = super().front_words()
+        if self.number == 2 and CLOCK:
+            clock = [f"{it}DONT_FAKE_MONOTONIC=1" for it in ("", "FAKETIME_")]
+            words[-1:] = ["env", "LD_PRELOAD=" + CLOCK[0], "FAKETIME=-40s", *clock, "freeradius"]
+        return words, folder
 
     def of_each(self):
         return {
@@ -81,7 +93,9 @@ class Pair(unittest.TestCase):
             (42, 1000 + n),
             (NAS_NAME, f"ap-{n % 20}"),
         ]
+        # One in twenty has no stamp, and one in ten an attribute that no dictionary has.
         pairs += [(CLASS, self.given)] if n % 20 else []
+        pairs += [] if n % 10 else [(241, b"\x63xyz")]
         machines = self.machines if n % 2 else self.machines[::-1]
         self.answered.append(any(it.report(pairs, tries=3, wait=1.2) for it in machines))
 
@@ -97,11 +111,18 @@ class Pair(unittest.TestCase):
         one, two = (it.of_each() for it in self.machines)
         return one == two and len(one) == count
 
+    def are_dated(self):
+        """No moment is another one in the other book, by more than a device's tries took."""
+        one, two = ({it["session"]: int(it["last"]) for it in machine.sessions()}
+                    for machine in self.machines)
+        self.assertLess(max(abs(one[it] - two[it]) for it in one), 25)
+
     def test_a_pair(self):
         self.answered = []
         one, two = self.machines
         [it.join() for it in self.devices(0, 300, 5)]
         self.assertTrue(lab.waited(lambda: self.equal(300), 60))
+        self.are_dated()
         threads = self.devices(300, 300, 20)
         time.sleep(3)
         two.stop_book()
@@ -118,6 +139,7 @@ class Pair(unittest.TestCase):
             f"600 reports, one machine off for 20 s: answered {sum(self.answered)}, books equal {time.time() - begun:.0f} s after it is back",
             flush=True,
         )
+        self.are_dated()
         self.assertEqual(sum(self.answered), 600)
         self.assertEqual([it.balances()["al"] for it in self.machines], [10**7 - 5700] * 2)
         self.a_lost_disk(one, two)
