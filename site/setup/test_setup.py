@@ -549,6 +549,7 @@ class Pages(Folder):
     def test_a_certificate_of_another_name_is_told(self):
         key, pem = (os.path.join(self.folder, it) for it in ("key", "pem"))
         self.patch(pages, serves_another=lambda *_: False)
+        self.patch(socket, getaddrinfo=lambda *_: [])
         for host, names in (("a.example.org", []), ("b.example.org", ["certificate-other"])):
             subprocess.run(["openssl", "req", "-x509", "-newkey", "rsa:2048", "-nodes", "-keyout",
                             key, "-out", pem, "-subj", "/CN=x", "-addext",
