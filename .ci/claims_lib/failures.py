@@ -7,7 +7,11 @@ import re
 from claims_lib.openers import is_of_program
 from claims_lib.tree import text_of, without_comments
 
-WORD = r"(?:Unavailable|NoMemory|Memory|AllocError|CannotRead|Unreadable|Mute|Fault|OutOfMemory|Trouble)\b"
+WORD = (
+    r"(?:(?:Unavailable|NoMemory|Memory|AllocError|CannotRead|Unreadable|Mute|Fault|OutOfMemory|Trouble"
+    # Who asks for too much gets no memory.
+    r"|io::Error::\w+|with_capacity|reserve\w*)\b|vec!\[in \w+;[^;\]]*;)"
+)
 # One more name would hide a failure.
 RENAMED = re.compile(rf"\b{WORD} as (?!OutOfMemory|Trouble)(\w+)"
                      rf"|^ *(?:pub(?:\(\w+\))? )?(?:type|const|static) (\w+)\b[^;]*= [\w:]*\b{WORD}", re.M)

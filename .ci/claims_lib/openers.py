@@ -15,8 +15,9 @@ READS = "crates/acct_reads/src/lib.rt"
 JOBS = "crates/acct_program_jobs/src/"
 COMMANDS = "crates/acct_program_commands/src/"
 CHANGES = COMMANDS + "file_changes.rt"
-DATAGRAMS = "crates/acct_net/src/datagrams.rt"
 MAIN = "crates/radacctd/src/main.rt"
+NET = "crates/acct_net/src/"
+DATAGRAMS = NET + "datagrams.rt"
 
 # Each rule: what it finds, how, and the sources that may have it.
 RULES = (
@@ -55,11 +56,21 @@ RULES = (
     ),
     (
         "a proof that a file was put or read, or octets sent",
-        r"\bunfolding\([^)]*\b(?:Puts|Sent)::\w+",
+        r"\bunfolding\([^)]*\b(?:Puts|Seen|Sent)::\w+",
         {
+            READS: "its calls alone say what was opened, and where a name leads",
             CHANGES: "`put_in_place` alone says that a file was put",
             COMMANDS + "config_file.rt": "`read_file` alone says what was read",
             DATAGRAMS: "`send_waiting` alone says what was sent",
+        },
+    ),
+    (
+        "the network, by which connections are made",
+        r"(?<!specs\.)\bNet\b",
+        {
+            NET + "binds.rt": "it binds, for all others",
+            "crates/acct_program_explain/src/socket_faults.rt": "it binds to see why not",
+            "crates/radacctd/src/explaining.rt": "it hands it to that",
         },
     ),
     (
@@ -69,16 +80,16 @@ RULES = (
     ),
 )
 # A proof that unfolds one of these says of a file whatever it likes.
-SEALED = re.compile(r"\bunfolding\b[^\n]*\b(?:WasPut|WasRead|WasSent)\b")
+SEALED = re.compile(r"\bunfolding\b[^\n]*\b(?:Was(?:Opened|Put|Read|Sent)|LeadsTo)\b")
 
 # How many calls of some kinds stand in each source: no second one, and none elsewhere. A clause says
 # what is bound, put or sent, and of none that nothing else is.
-NET = "crates/acct_net/src/"
 COUNTED = (
     (
         "binds of sockets",
-        re.compile(r"\b\w+::bind\w*\(|(?<!fn )\b(?:bound|bind_reports)\("),
+        re.compile(r"(?:\b\w+::|\bruntime\.)bind\w*\(|(?<!fn )\b(?:bound|bind_reports)\("),
         {
+            NET + "binds.rt": 2,
             DATAGRAMS: 2,
             NET + "desk.rt": 1,
             NET + "sockets.rt": 1,
@@ -94,13 +105,41 @@ COUNTED = (
         {DATAGRAMS: 4, NET + "event_loop.rt": 1, NET + "sockets.rt": 1},
     ),
     (
+        "calls on the way of a response",
+        re.compile(
+            r"\.accept\(\)|\bCaller::new\(|\b(?:caller|desk)\.answer\(|\bresponse\.write\("
+            r"|\bstream\.write\w*\(|\bwrite(?:ln)?!\((?:stream|caller)"
+        ),
+        {
+            NET + "desk.rt": 3,
+            NET + "event_loop.rt": 1,
+            "crates/acct_net_callers/src/caller.rt": 1,
+        },
+    ),
+    (
+        "calls that open or put a file that is rewritten",
+        re.compile(r"\bruntime\.(?:open_empty|put_in_place)\("),
+        {COMMANDS + "fresh_file.rt": 2},
+    ),
+    (
         "files that are rewritten from time to time",
-        re.compile(r"\bFreshFile::new\("),
-        {COMMANDS + "balances_file.rt": 1, COMMANDS + "status_file.rt": 1},
+        re.compile(r"\b(?:FreshFile::new|ReplacedName::of)\("),
+        {
+            COMMANDS + "balances_file.rt": 1,
+            COMMANDS + "fresh_file.rt": 1,
+            COMMANDS + "status_file.rt": 1,
+        },
+    ),
+    (
+        "opens of the files of a book",
+        re.compile(r"\bopen_(?:from|files_with)\("),
+        {JOBS + "database.rt": 2},
     ),
 )
 # What is known of files and of sent octets is sealed in these, once each.
-SEALS = re.compile(r"^(\w+ pub) Was(?:Put|Read|Sent)\b", re.M)
+SEALS = re.compile(r"^(\w+ pub) (?:Was(?:Opened|Put|Read|Sent)|LeadsTo)\b", re.M)
+# How often each source unfolds one.
+UNFOLDS = {CHANGES: 1, COMMANDS + "config_file.rt": 1, READS: 3, DATAGRAMS: 1}
 
 # What a source may name of std where files and processes are. Else all of it is only for the two.
 SYSTEM = re.compile(r"std(?:$| |::\*|::(?:fs|rt|process|os)\b)")
@@ -146,11 +185,6 @@ BY_EYE = (
         "what it gives is all that the file of this name has, or why not",
     ),
     (COMMANDS + "config_file.rt", "opened", "the file read is the one named"),
-    (
-        COMMANDS + "fresh_file.rt",
-        "FreshFile::finish",
-        "it puts one file, which it counts: a second put in it would count as one",
-    ),
     (JOBS + "database.rt", "opened", "the file opened is the one named"),
     (
         "crates/acct_net/src/datagrams.rt",
@@ -158,6 +192,8 @@ BY_EYE = (
         "the socket is bound at the address and port that are kept beside it",
     ),
     ("crates/acct_net/src/desk.rt", "opened", "so is the desk's"),
+    (NET + "binds.rt", "Binds::bind_listener", "what it binds is bound there"),
+    (NET + "binds.rt", "Binds::bind_datagrams", "so is this"),
     (
         "crates/acct_net/src/datagrams.rt",
         "RadiusSocket::receive",
@@ -166,7 +202,7 @@ BY_EYE = (
     ),
     (DATAGRAMS, "send_waiting", "it sends the octets that it is given, and says how that ended"),
 )
-MOST_BY_EYE = 239
+MOST_BY_EYE = 230
 MOST_OF_CHANGES = 120
 
 USE = re.compile(r"^\s*(?:pub(?:\([^)]*\))? )?use ([^;]+);", re.M)
@@ -238,7 +274,7 @@ def function_in(text, name):
 
 
 # What the prover holds a body to is not for a person's eye.
-CLAUSE = re.compile(r"\s*(?:ensures|requires|ghost)\b")
+CLAUSE = re.compile(r"\s*(?:ensures|requires|ghost|#\[tactic)\b")
 
 
 def by_eye():
@@ -265,11 +301,11 @@ def check_by_eye(checker):
 
 
 def check_sealed(checker):
-    """What is known of a file comes from the two functions that a person reads, once from each."""
-    for path in (CHANGES, COMMANDS + "config_file.rt"):
-        if len(re.findall(r"\bPuts::\w+\)", text_of(path))) != 1:
+    """What is known of a file comes from the functions that a person reads, once from each."""
+    for path, count in UNFOLDS.items():
+        if len(re.findall(r"\b(?:Puts|Seen|Sent)::\w+\)", text_of(path))) != count:
             checker.page = path
-            checker.find(1, "it unfolds what is known of a file other than once")
+            checker.find(1, f"it unfolds what is known of a file other than {count} times")
     seals = []
     for path in checker.tree.files:
         if path.startswith("crates/") and path.endswith(".antt"):
@@ -278,8 +314,8 @@ def check_sealed(checker):
             if SEALED.search(text):
                 checker.page = path
                 checker.find(1, "its proof unfolds what is known of a file")
-    if seals != ["unfoldable pub"] * 3:
-        checker.find(1, f"WasPut, WasRead and WasSent are sealed once each, not {seals}")
+    if seals != ["unfoldable pub"] * 5:
+        checker.find(1, f"what was put, read, opened, led to and sent is sealed once each: {seals}")
 
 
 def check(checker):

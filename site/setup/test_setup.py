@@ -653,6 +653,8 @@ class Check(Folder):
         now = time.time()
         rows = (("", ["balances-old"]), (f"radacctd_balances_time_seconds {now:.0f}\n", []),
                 (f"radacctd_balances_time_seconds {now + 999:.0f}\n", ["clock-wrong"]),
+                (f"radacctd_balances_time_seconds {now - 999:.0f}\n", ["balances-old"]),
+                (f"radacctd_balances_time_seconds {now - 999:.0f}\nradacctd_accounts 20001\n", []),
                 (f"radacctd_balances_time_seconds {now:.0f}\nradacctd_config_is_current 0\n",
                  ["config-wrong"]))
         for text, names in rows:

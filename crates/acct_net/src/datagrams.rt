@@ -17,12 +17,13 @@ ghost use Rattle.acct_net.specs.inner.Sent.{WasSent};
 ghost use Rattle.acct_net.specs.inner.Turns.{in_turn};
 ghost use Rattle.std.specs.IoError.{error_kind};
 
+use crate::binds::Binds;
 use crate::readiness::Readiness;
 use acct_service::Fault;
 use std::alloc::Global;
 use std::io;
 use std::io::ErrorKind;
-use std::net::{Ipv4Addr, Net, SocketAddr, SocketAddrV4, UdpSocket};
+use std::net::{SocketAddr, SocketAddrV4, UdpSocket};
 
 /// The sockets for datagrams.
 pub struct Datagrams {
@@ -63,7 +64,7 @@ impl Datagrams {
     ///
     /// Those of the system: the port is taken or needs a right that the program hasn't, or the
     /// machine hasn't an address. `InvalidInput` if there is no address, and `OutOfMemory`.
-    pub fn bind<R: Net>(
+    pub fn bind<R: Binds>(
         runtime: &R,
         alloc: Global,
         addresses: &[[u8; 4]],
@@ -216,12 +217,12 @@ impl Datagrams {
 impl RadiusSocket {
     // Binds a socket, and keeps beside it where. No contract of the system says so: this is read by
     // eye, and all above it is a clause.
-    fn bind<R: Net>(runtime: &R, address: [u8; 4], port: u16) -> io::Result<RadiusSocket>
+    fn bind<R: Binds>(runtime: &R, address: [u8; 4], port: u16) -> io::Result<RadiusSocket>
         ensures address { IfOk result (λ socket. socket.address ≡ address) }
         ensures port { IfOk result (λ socket. socket.port ≡ port) }
         ensures heard { IfOk result (λ socket. socket.may_receive ≡ true) }
     {
-        let udp = UdpSocket::bind(runtime, (Ipv4Addr::from(address), port))?;
+        let udp = runtime.bind_datagrams(address, port)?;
         udp.set_nonblocking(true)?;
         Ok(RadiusSocket {
             udp,

@@ -18,6 +18,7 @@ ghost use Rattle.acct_net.specs.inner.Turns.{in_turn};
 ghost use Rattle.std.specs.List.{All, HoldsAt, position};
 ghost use Rattle.std.specs.Prelude.{◌<◌, ◌-◌, ◌^◌, ℕ, IfNone, IsSome, is_none, length, replicate};
 
+use crate::binds::Binds;
 use crate::readiness::Readiness;
 use acct_model::Octets;
 use acct_net_callers::{Caller, Step};
@@ -25,7 +26,7 @@ use acct_service::Fault;
 use std::alloc::Global;
 use std::io;
 use std::io::{ErrorKind, Read, Write};
-use std::net::{Ipv4Addr, Net, OpenListener, OpenStream, TcpListener};
+use std::net::{OpenListener, OpenStream};
 use std::time::Instant;
 
 /// How many callers have a place.
@@ -75,7 +76,7 @@ impl<L: Drop> Drop for Door<L> {
 }
 
 /// The desk's listener, and the callers at their places.
-pub struct Desk<R: Net> {
+pub struct Desk<R: Binds> {
     alloc: Global,
     door: Door<R::Listener>,
     may_accept: bool,
@@ -87,7 +88,7 @@ pub struct Desk<R: Net> {
     serves: u64,
 }
 
-impl<R: Net> Drop for Desk<R> {
+impl<R: Binds> Drop for Desk<R> {
     fn drop(self) {
         let Desk {
             alloc: _,
@@ -102,7 +103,7 @@ impl<R: Net> Drop for Desk<R> {
     }
 }
 
-impl<R: Net> Desk<R> {
+impl<R: Binds> Desk<R> {
     /// A desk with no callers, bound at this address and port. At port 0 the system chooses one.
     ///
     /// # Errors
@@ -576,11 +577,11 @@ fn first_ready<S: Read + Write + OpenStream + Drop>(places: &[Option<Caller<S>>]
 
 // Binds what accepts callers, and keeps beside it where. No contract of the system says so: this is
 // read by eye, and all above it is a clause.
-fn opened<R: Net>(runtime: &R, address: [u8; 4], port: u16) -> io::Result<Door<R::Listener>>
+fn opened<R: Binds>(runtime: &R, address: [u8; 4], port: u16) -> io::Result<Door<R::Listener>>
     ensures address { IfOk result (λ door. door.address ≡ address) }
     ensures port { IfOk result (λ door. door.port ≡ port) }
 {
-    let listener = TcpListener::bind(runtime, (Ipv4Addr::from(address), port))?;
+    let listener = runtime.bind_listener(address, port)?;
     listener.set_nonblocking(true)?;
     Ok(Door {
         listener,

@@ -19,6 +19,7 @@ ghost use Rattle.acct_net.specs.inner.RadiusSockets.{IsFault, IsLost, IsReceived
 ghost use Rattle.acct_net.specs.inner.RadiusSockets.{IsUnsent, IsWokenAt};
 ghost use Rattle.acct_net.specs.inner.Turns.{is_request};
 
+use crate::binds::Binds;
 use crate::datagrams::Datagrams;
 use crate::desk::{Desk, PLACES, Unanswered};
 use crate::readiness::Readiness;
@@ -26,7 +27,7 @@ use acct_model::Octets;
 use acct_service::{Event, Fault, What};
 use std::alloc::Global;
 use std::io;
-use std::net::{Ipv4Addr, Net, OpenListener, SocketAddrV4};
+use std::net::{Ipv4Addr, OpenListener, SocketAddrV4};
 use std::time::Clock;
 
 /// The most octets of a datagram.
@@ -39,7 +40,7 @@ const LISTENER: usize = PLACES;
 const DATAGRAMS: usize = PLACES + 1;
 
 /// What a turn works on: all sockets, with the callers that are connected.
-pub struct EventLoop<'r, R: Net> {
+pub struct EventLoop<'r, R: Binds> {
     runtime: &'r R,
     alloc: Global,
     readiness: Readiness,
@@ -51,7 +52,7 @@ pub struct EventLoop<'r, R: Net> {
     ghost room: { length buffer.items ≡ 65535 },
 }
 
-impl<'r, R: Net> Drop for EventLoop<'r, R> {
+impl<'r, R: Binds> Drop for EventLoop<'r, R> {
     fn drop(self) {
         let EventLoop {
             runtime: _,
@@ -65,7 +66,7 @@ impl<'r, R: Net> Drop for EventLoop<'r, R> {
     }
 }
 
-impl<'r, R: Net + Clock> EventLoop<'r, R> {
+impl<'r, R: Binds + Clock> EventLoop<'r, R> {
     /// Watches the sockets.
     ///
     /// # Errors
@@ -346,7 +347,7 @@ fn copy(alloc: Global, buffer: &[u8], size: usize) -> Result<Octets, Fault>
 }
 
 // Wakes what the last wait found ready.
-fn wake_found<R: Net>(readiness: &Readiness, datagrams: &mut Datagrams, desk: &mut Desk<R>)
+fn wake_found<R: Binds>(readiness: &Readiness, datagrams: &mut Datagrams, desk: &mut Desk<R>)
     ensures datagrams { datagrams.new ≡ record datagrams.old { sockets = datagrams.new.sockets } }
     ensures desk { desk.new ≡ record desk.old {
       may_accept = desk.new.may_accept;
@@ -359,7 +360,7 @@ fn wake_found<R: Net>(readiness: &Readiness, datagrams: &mut Datagrams, desk: &m
 }
 
 // Notes that what is watched under this number may be ready.
-fn wake<R: Net>(datagrams: &mut Datagrams, desk: &mut Desk<R>, number: usize)
+fn wake<R: Binds>(datagrams: &mut Datagrams, desk: &mut Desk<R>, number: usize)
     ensures socket { LISTENER < number → IsWokenAt (number - DATAGRAMS)
         datagrams.old.sockets.items datagrams.new.sockets.items × (desk.new ≡ desk.old) }
     ensures listener { number ≡ LISTENER → (desk.new ≡ record desk.old { may_accept = true })

@@ -3,12 +3,12 @@
 ghost use Rattle.std.specs.Prelude.{◌≡◌, ◌+◌, ◌-◌, ◌<◌, ◌^◌, IfOk, IsErr, IsTrue, ◌↔◌, length};
 ghost use Rattle.mio.specs.Events.{items};
 
+use crate::binds::Binds;
 use acct_service::moment_of;
 use mio::unix::SourceFd;
 use mio::{Events, Interest, Poll, Token};
 use std::alloc::Global;
 use std::io;
-use std::net::Net;
 use std::os::fd::AsRawFd;
 use std::time::{Clock, Duration, Instant};
 
@@ -35,11 +35,11 @@ impl Readiness {
     /// # Errors
     ///
     /// Those of the system, and `OutOfMemory`.
-    pub fn new<R: Net>(runtime: &R, alloc: Global, capacity: usize) -> io::Result<Readiness>
+    pub fn new<R: Binds>(runtime: &R, alloc: Global, capacity: usize) -> io::Result<Readiness>
         ensures { IfOk result (λ readiness. readiness.waits ≡ 0) }
     {
         Ok(Readiness {
-            poll: Poll::new(runtime)?,
+            poll: runtime.poll()?,
             events: Events::with_capacity(alloc, capacity)?,
             waits: 0,
             most: 0,

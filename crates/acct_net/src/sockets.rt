@@ -5,10 +5,11 @@
 ghost use Rattle.std.specs.Prelude.{◌≡◌, ◌+◌, ◌-◌, ◌<◌, ◌≤◌, ◌^◌, true, false, None, IfOk, IfSome};
 ghost use Rattle.std.specs.Prelude.{OnErr, OnOk};
 ghost use Rattle.std.specs.List.{list_any};
-ghost use Rattle.acct_service.specs.Told.{CountsFault, Grows, given, sent};
+ghost use Rattle.acct_service.specs.Told.{CountsFault, Grows, drop_told, given, sent};
 ghost use Rattle.acct_net.specs.inner.Places.{HasFailed, IsAnswered, IsOfUnanswered};
 ghost use Rattle.acct_net.specs.inner.RadiusSockets.{IsFault, IsReceived, IsSent, IsUnsent};
 
+use crate::binds::Binds;
 use crate::datagrams::Datagrams;
 use crate::desk::{Desk, Unanswered};
 use crate::event_loop::EventLoop;
@@ -16,11 +17,10 @@ use acct_service::{Event, Exchange, Fault};
 use acct_wire::Reason;
 use std::alloc::Global;
 use std::io;
-use std::net::Net;
 use std::time::Clock;
 
 /// The sockets of a server, with the callers that are connected. Each turn waits once.
-pub struct Sockets<'r, R: Net> {
+pub struct Sockets<'r, R: Binds> {
     event_loop: EventLoop<'r, R>,
     turns: u64,
     failures: u64,
@@ -29,7 +29,7 @@ pub struct Sockets<'r, R: Net> {
     ghost served: { event_loop.desk.serves ≤ turns },
 }
 
-impl<'r, R: Net> Drop for Sockets<'r, R> {
+impl<'r, R: Binds> Drop for Sockets<'r, R> {
     fn drop(self) {
         let Sockets {
             event_loop: _,
@@ -39,7 +39,7 @@ impl<'r, R: Net> Drop for Sockets<'r, R> {
     }
 }
 
-impl<'r, R: Net + Clock> Sockets<'r, R> {
+impl<'r, R: Binds + Clock> Sockets<'r, R> {
     /// These sockets for datagrams, and one for callers that is bound at this IPv4 address and port.
     /// At port 0 the system chooses one.
     ///
@@ -88,7 +88,7 @@ impl<'r, R: Net + Clock> Sockets<'r, R> {
     }
 }
 
-impl<'r, R: Net + Clock> Exchange for Sockets<'r, R> {
+impl<'r, R: Binds + Clock> Exchange for Sockets<'r, R> {
     ghost turn_count = { λ s. s.turns };
 
     ghost failure_count = { λ s. s.failures };
@@ -156,7 +156,13 @@ impl<'r, R: Net + Clock> Exchange for Sockets<'r, R> {
         sent
     }
 
-    fn note_drop(&mut self, _event: &Event, _reason: Reason) {}
+    fn note_drop(&mut self, _event: &Event, _reason: Reason)
+        ensures turns { self.new.turns ≡ self.old.turns }
+        ensures failures { self.new.failures ≡ self.old.failures }
+        ensures told { Grows None (drop_told _event.now _reason) None }
+        // Nobody gets anything.
+        ensures same { self.new ≡ self.old }
+    {}
 
     fn turns(&self) -> u64 {
         self.turns

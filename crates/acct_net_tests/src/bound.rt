@@ -1,14 +1,13 @@
 //! Sockets at ports that the system chooses.
 ghost use Rattle.std.specs.Prelude.{◌≡◌, IfOk};
 
-use acct_net::{Datagrams, Sockets};
+use acct_net::{Binds, Datagrams, Sockets};
 use std::alloc::Global;
 use std::io;
-use std::net::Net;
 use std::time::Clock;
 
 /// Sockets for datagrams at these addresses, and one for callers at the desk's.
-pub fn bound_at<'r, R: Net + Clock>(
+pub fn bound_at<'r, R: Binds + Clock>(
     runtime: &'r R,
     alloc: Global,
     addresses: &[[u8; 4]],

@@ -12,7 +12,8 @@ pub keeps_however : (One Other : List ℕ → Type 0) (so : (name : List ℕ) �
 keeps_however One Other so moment None new same = same
 keeps_however One Other so moment (Some old) None keeps = keeps
 keeps_however One Other so moment (Some old) (Some new) (due, idle) = (
-  λ is_due. let (begun, put) = due is_due in (begun, λ fine. so old.name (put fine)),
+  λ is_due. let (is_long, (begun, put)) = due is_due in
+      (is_long, (begun, λ fine. so old.name (put fine))),
   idle,
 )
 

@@ -46,7 +46,8 @@ abbrev pub KeepsAt : (List ℕ → Type 0) → ℕ → Option FreshFile → Opti
 KeepsAt IsPut moment None new = new ≡ None
 KeepsAt IsPut moment (Some old) None = ⊥
 KeepsAt IsPut moment (Some old) (Some new) =
-    (IsDue old.pause old.begun_at moment → Rewrites IsPut moment old new)
+    (IsDue old.pause old.begun_at moment
+    → (is_long : Bool) × Rewrites is_long IsPut moment old new)
     × (¬ IsDue old.pause old.begun_at moment → new ≡ old)
 
 -- Between two slices the clock is read once. At that moment the file of balances is written if it is

@@ -3,12 +3,13 @@
 //!
 //! It is written after a slice of turns, at most once in so many seconds. A failed write changes
 //! nothing else. It is printed once, until a write succeeds again.
-ghost use Rattle.std.specs.Prelude.{◌≡◌, IfOk, OnOk, is_err};
+ghost use Rattle.std.specs.Prelude.{◌≡◌, Bool, IfOk, OnOk, is_err};
 ghost use Rattle.acct_book.specs.Step.{OnlyLooks};
 ghost use Rattle.acct_program_commands.specs.Exports.{Exports};
 ghost use Rattle.acct_program_commands.specs.Fresh.{IsDue};
 ghost use Rattle.acct_program_commands.specs.Placed.{PutsBalances};
-ghost use Rattle.acct_program_commands.specs.Unwritten.{puts_after, unwritten, Rewrites};
+ghost use Rattle.acct_program_commands.specs.Unwritten.{next_count, puts_after, unwritten};
+ghost use Rattle.acct_program_commands.specs.Unwritten.{Rewrites};
 
 use crate::counted_lines::CountedLines;
 use crate::exporting::run_export;
@@ -22,6 +23,8 @@ use acct_program_args::{BalancesFile, Export};
 use std::alloc::{AllocError, Global};
 use std::io::Write;
 
+/// A file of more accounts took long to write: no report is answered meanwhile.
+const MOST_ACCOUNTS: u64 = 20_000;
 /// The file shows who owes what: its owner may write it, its group may read it, nobody else may.
 const MODE: u32 = 0o640;
 
@@ -47,7 +50,8 @@ impl<'r, R: ReplacesFiles> KeptBalances<'r, R> {
     }
 
     /// Writes all balances if that is due at a moment, in seconds since 1970. Notes in `gauges`
-    /// what was written, or prints on `errors` why the write failed.
+    /// what was written, or prints on `errors` why the write failed. After a file of more than
+    /// 20,000 accounts the next one is due after an hour at the earliest.
     pub fn keep<B: Book, E: Write>(
         &mut self,
         alloc: Global,
@@ -59,8 +63,8 @@ impl<'r, R: ReplacesFiles> KeptBalances<'r, R> {
     )
         ensures looks { OnlyLooks B.Book book.old book.new }
         ensures due { IsDue self.old.file.pause self.old.file.begun_at moment
-            → Rewrites (λ name. PutsBalances (R.was_put name) (B.content book.old)
-            (B.is_open book.new)) moment self.old.file self.new.file }
+            → (is_long : Bool) × Rewrites is_long (λ name. PutsBalances (R.was_put name)
+            (B.content book.old) (B.is_open book.new)) moment self.old.file self.new.file }
         ensures idle { ¬ IsDue self.old.file.pause self.old.file.begun_at moment
             → self.new.file ≡ self.old.file }
     {
@@ -68,18 +72,19 @@ impl<'r, R: ReplacesFiles> KeptBalances<'r, R> {
             return;
         }
         let written = write_file(self.runtime, alloc, &mut self.file, plans, book);
-        let noted = match written {
+        let (is_long, noted) = match written {
             Ok((accounts, overdrawn)) => {
                 gauges.note_balances(BalancesWritten {
                     at: moment,
                     accounts,
                     overdrawn,
                 });
-                Ok(())
+                (accounts > MOST_ACCOUNTS, Ok(()))
             }
-            Err(fault) => Err(fault),
+            Err(fault) => (false, Err(fault)),
         };
-        let _ = self.file.note(Some(moment), "balances", noted, errors);
+        let begun_at = Some(moment);
+        let _ = self.file.note(begun_at, is_long, "balances", noted, errors);
     }
 }
 
@@ -115,6 +120,7 @@ fn write_file<R: ReplacesFiles, B: Book>(
     ensures put { OnOk result (PutsBalances (R.was_put file.old.name) (B.content book.old)
         (B.is_open book.new)) }
     ensures counted { file.new ≡ record file.old {
+      begins = next_count file.old.begins;
       puts = puts_after (is_err result) file.old.puts;
     } }
 {

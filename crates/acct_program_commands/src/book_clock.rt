@@ -4,9 +4,8 @@ ghost use Rattle.std.specs.Time.{system_time_nanos};
 ghost use Rattle.std.specs.Io.KnownBytes.{Appends};
 ghost use Rattle.acct_program_commands.specs.BookClock.{late_text, late_line};
 
-use crate::book_names::log_of;
 use acct_model::Text;
-use acct_reads::ReadsFiles;
+use acct_reads::{ReadsFiles, log_name};
 use acct_service::moment_of;
 use std::io::Write;
 use std::time::{Clock, SystemTime, UNIX_EPOCH};
@@ -86,17 +85,17 @@ fn write_late<E: Write>(errors: &mut E, moment: u64, written_at: u64) -> io::Res
 // When the file of a book or its log was last written, in seconds since 1970: 0 if that is not
 // known.
 fn written_at<R: ReadsFiles + AllocGlobal>(runtime: &R, file: &Text) -> u64 {
-    let written = changed_at(runtime, file, 0);
-    match log_of(runtime, runtime.alloc(), file.as_str()) {
-        Ok(log) => written.max(changed_at(runtime, &log, LEAST_LOG)),
+    let written = changed_at(runtime, file.as_str(), 0);
+    match log_name(runtime, runtime.alloc(), file.as_str()) {
+        Ok(log) => written.max(changed_at(runtime, log.as_str(), LEAST_LOG)),
         Err(_) => written,
     }
 }
 
 // When a file was last written, in seconds since 1970: 0 if that is not known, or if the file has
 // fewer octets than these.
-fn changed_at<R: ReadsFiles>(runtime: &R, file: &Text, least: u64) -> u64 {
-    match runtime.metadata(file.as_str()) {
+fn changed_at<R: ReadsFiles>(runtime: &R, file: &str, least: u64) -> u64 {
+    match runtime.metadata(file) {
         Ok(metadata) if metadata.len() >= least => seconds_of(metadata.modified()),
         Ok(_) | Err(_) => 0,
     }

@@ -1,13 +1,16 @@
 //! Whether the names of a book still lead to the files that a server has open.
 //!
-//! A server goes on with the files that it opened. If a name leads to another file, or to none, what
-//! it records is in no file that the next start finds. So it is looked at while the server runs.
+//! A server goes on with the files that it opened. If a name leads to another file, or to none,
+//! what it records is in no file that the next start finds. So it is looked at before the book is
+//! opened, again before the first turn, and while the server runs.
 ghost use Rattle.std.specs.Prelude.{◌≡◌, false, Option, Bool, None, Some, IfOk, not};
-ghost use Rattle.acct_program_commands.specs.Names.{LooksAtName, LooksAtNames, LooksOnceAt, away_of, seen_of};
+ghost use Rattle.acct_reads.specs.Log.{IsLogOf};
+ghost use Rattle.acct_program_commands.specs.Names.{LooksAtName, LooksAtNames, LooksOnceAt};
+ghost use Rattle.acct_program_commands.specs.Names.{away_of, seen_of};
 
 use crate::gauges::Gauges;
 use acct_model::Text;
-use acct_reads::ReadsFiles;
+use acct_reads::{ReadsFiles, log_name};
 use std::alloc::{AllocError, Global};
 use std::fs::Metadata;
 use std::io::{ErrorKind, Write};
@@ -39,22 +42,22 @@ impl<'r, R> Drop for BookNames<'r, R> {
 }
 
 impl<'r, R: ReadsFiles> BookNames<'r, R> {
-    /// The names of a book that a server has opened.
+    /// The names of a book that a server will open.
     ///
     /// # Errors
     ///
     /// If there is no memory for the names.
     pub fn new(runtime: &'r R, alloc: Global, book: &Text) -> Result<BookNames<'r, R>, AllocError>
         ensures book { IfOk result (λ names. names.book.path ≡ book.now) }
+        ensures log { IfOk result (λ names. IsLogOf R.leads_to book.now names.log.path) }
         ensures unseen { IfOk result (λ names. (names.looked_at ≡ None) × (names.is_away ≡ false)
             × (names.is_told ≡ false)) }
     {
-        let name = book.as_str();
-        let log = log_of(runtime, alloc, name)?;
+        let log = log_name(runtime, alloc, book.as_str())?;
         let mut names = BookNames {
             runtime,
             book: Name::new(book.copy(alloc)?),
-            log: Name::new(log),
+            log: Name::new(Text { text: log }),
             looked_at: None,
             is_away: false,
             is_told: false,
@@ -67,6 +70,20 @@ impl<'r, R: ReadsFiles> BookNames<'r, R> {
     pub fn is_away(&self) -> bool
         ensures { result ≡ self.now.is_away }
     {
+        self.is_away
+    }
+
+    /// Looks where they lead as the server begins. Returns whether one is known to lead elsewhere
+    /// than at first, when the book was not open yet. Then a line says so.
+    pub fn have_moved<E: Write>(&mut self, errors: &mut E) -> bool
+        ensures looks { LooksAtNames (seen_of self.old) (seen_of self.new) }
+        ensures unnoted { self.new.looked_at ≡ self.old.looked_at }
+        ensures says { result ≡ self.new.is_away }
+    {
+        self.look_now();
+        if self.is_away {
+            self.tell(errors, "leads to another file or to none: it is not served");
+        }
         self.is_away
     }
 
@@ -84,6 +101,17 @@ impl<'r, R: ReadsFiles> BookNames<'r, R> {
             gauges.note_away(self.is_away);
             self.tell_change(was_away, errors);
         }
+    }
+
+    // Looks where they lead.
+    fn look_now(&mut self)
+        ensures looks { LooksAtNames (seen_of self.old) (seen_of self.new) }
+        ensures unnoted { self.new.looked_at ≡ self.old.looked_at }
+    {
+        let Some(is_away) = self.lead_elsewhere() else {
+            return;
+        };
+        self.is_away = is_away;
     }
 
     // Looks where they lead. Returns whether that is known.
@@ -145,22 +173,6 @@ fn away_of(book: Option<bool>, log: Option<bool>) -> Option<bool>
         (Some(false), Some(false)) => Some(false),
         (_, _) => None,
     }
-}
-
-/// The log's name: it is beside the file to which the book's name leads.
-pub(crate) fn log_of<R: ReadsFiles>(
-    runtime: &R,
-    alloc: Global,
-    book: &str,
-) -> Result<Text, AllocError> {
-    let text = match runtime.canonicalize(alloc, book) {
-        Ok(path) => {
-            let path = path.as_str();
-            format!(in alloc; "{path}-wal")?
-        }
-        Err(_) => format!(in alloc; "{book}-wal")?,
-    };
-    Ok(Text { text })
 }
 
 // A file's name, the file to which it led first, and where it led last.

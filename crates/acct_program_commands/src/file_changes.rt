@@ -8,6 +8,7 @@ ghost use Rattle.std.specs.Io.KnownBytes.{Appends};
 ghost use Rattle.std.specs.Fs.{asks_create, asks_create_new, asks_truncate};
 ghost use Rattle.acct_program_commands.specs.Puts.{WasPut};
 
+use crate::replaced_name::ReplacedName;
 use acct_reads::ReadsFiles;
 use std::fs::{Files, OpenFile, OpenOptions, Permissions};
 use std::io::Write;
@@ -26,13 +27,13 @@ pub trait ReplacesFiles: ReadsFiles {
     /// `put_in_place` gives this.
     ghost was_put: { List ℕ → List ℕ → Type 0 };
 
-    /// Opens an empty file, and gives it a mode. If there is a file of this name, it is emptied.
-    fn open_empty(&self, name: &str, mode: u32) -> io::Result<Self::Writer>
+    /// Opens the successor of a file, and gives it a mode. If there is one already, it is emptied.
+    fn open_empty(&self, name: &ReplacedName, mode: u32) -> io::Result<Self::Writer>
         ensures fresh { IfOk result (λ file. Self.Writer.contents file ≡ fresh) };
 
-    /// Closes a file that was written as `new_name`, and gives it the name of another one, which is
-    /// gone by that. Whoever opens a file by this name finds one of the two, and it is whole.
-    fn put_in_place(&self, file: Self::Writer, new_name: &str, name: &str) -> io::Result<()>
+    /// Closes the successor of a file, and gives it the name of that file, which is gone by that.
+    /// Whoever opens a file by this name finds one of the two, and it is whole.
+    fn put_in_place(&self, file: Self::Writer, name: &ReplacedName) -> io::Result<()>
         ensures put { OnOk result ((text : List ℕ)
             → Appends fresh (Self.Writer.contents file) text → was_put name.now text) };
 }
@@ -67,19 +68,19 @@ impl<R: Files> ReplacesFiles for R {
 
     ghost was_put = { WasPut };
 
-    fn open_empty(&self, name: &str, mode: u32) -> io::Result<Self::Writer> {
+    fn open_empty(&self, name: &ReplacedName, mode: u32) -> io::Result<Self::Writer> {
         let mut options = OpenOptions::new();
         options.write(true).create(true).truncate(true).mode(mode);
-        let file = options.open(self, name)?;
+        let file = options.open(self, name.new_name())?;
         // A new file has the mode less the program's umask, and an existing one keeps its own.
         let _ = file.set_permissions(Permissions::from_mode(mode));
         Ok(NewFile(file))
     }
 
     #[tactic(auto, unfolding(crate::specs::Puts::WasPut))]
-    fn put_in_place(&self, file: Self::Writer, new_name: &str, name: &str) -> io::Result<()> {
+    fn put_in_place(&self, file: Self::Writer, name: &ReplacedName) -> io::Result<()> {
         drop(file);
-        fs::rename(self, new_name, name)
+        fs::rename(self, name.new_name(), name.name())
     }
 }
 

@@ -5,14 +5,15 @@
 //! or more, and at the end. A failed write changes nothing else. It is printed once, until a write
 //! succeeds again.
 ghost use Rattle.std.specs.Prelude.{◌≡◌, ◌^◌, ◌<◌, false, IfOk, OnOk, is_err, replicate};
+ghost use Rattle.acct_reads.specs.Log.{IsLogOf};
 ghost use Rattle.acct_program_commands.specs.Fresh.{IsDue};
 ghost use Rattle.acct_program_commands.specs.Placed.{PutsFigures};
-ghost use Rattle.acct_program_commands.specs.Unwritten.{puts_after, unwritten, IsBegun, Rewrites};
+ghost use Rattle.acct_program_commands.specs.Unwritten.{next_count, puts_after, unwritten};
+ghost use Rattle.acct_program_commands.specs.Unwritten.{IsBegun, Rewrites};
 ghost use Rattle.acct_program_commands.specs.Tally.{no_tally};
 ghost use Rattle.acct_program_commands.specs.Counted.{CountsAs, figures_of, muted, with_turn};
 ghost use Rattle.acct_program_commands.specs.Counted.{with_answer, with_refusal};
 
-use crate::book_names::log_of;
 use crate::fault::Fault as Trouble;
 use crate::figures::{Figures, State, write_figures};
 use crate::file_changes::ReplacesFiles;
@@ -20,7 +21,7 @@ use crate::fresh_file::FreshFile;
 use crate::gauges::Gauges;
 use crate::tally::{Arrivals, Meter};
 use acct_model::Text;
-use acct_reads::ReadsFiles;
+use acct_reads::{ReadsFiles, log_name};
 use acct_service::{Event, Fault, What};
 use acct_wire::Reason;
 use std::alloc::{AllocError, Global};
@@ -95,13 +96,16 @@ impl<'r, R: ReadsFiles> StateSource<'r, R> {
         book: &Text,
     ) -> Result<StateSource<'r, R>, AllocError>
         ensures book { IfOk result (λ state. state.book ≡ book.now) }
+        ensures log { IfOk result (λ state. IsLogOf R.leads_to book.now state.log) }
         ensures gauges { IfOk result (λ state. state.gauges ≡ gauges.entry) }
     {
         Ok(StateSource {
             runtime,
             gauges,
             book: book.copy(alloc)?,
-            log: log_of(runtime, alloc, book.as_str())?,
+            log: Text {
+                text: log_name(runtime, alloc, book.as_str())?,
+            },
         })
     }
 
@@ -189,7 +193,7 @@ impl<'r, R: ReplacesFiles, E: Write> StatusFile<'r, R, E> {
     pub(crate) fn note_turn(&mut self, came: &Result<Option<Event>, Fault>, moment: u64)
         ensures counts { CountsAs (with_turn came.now) (Some self.old) (Some self.new) }
         ensures due { IsDue self.old.file.pause self.old.file.begun_at moment
-            → Rewrites (λ name. (state : State) × PutsFigures (R.was_put name)
+            → Rewrites false (λ name. (state : State) × PutsFigures (R.was_put name)
             (figures_of (muted self.old) state)) moment self.old.file self.new.file }
         ensures idle { ¬ IsDue self.old.file.pause self.old.file.begun_at moment
             → self.new.file ≡ self.old.file }
@@ -229,7 +233,7 @@ impl<'r, R: ReplacesFiles, E: Write> StatusFile<'r, R, E> {
     // Writes the counts if the file is due at this moment.
     fn write_if_due(&mut self, moment: u64)
         ensures due { IsDue self.old.file.pause self.old.file.begun_at moment
-            → Rewrites (λ name. (state : State) × PutsFigures (R.was_put name)
+            → Rewrites false (λ name. (state : State) × PutsFigures (R.was_put name)
             (figures_of self.old state)) moment self.old.file self.new.file }
         ensures idle { ¬ IsDue self.old.file.pause self.old.file.begun_at moment
             → self.new.file ≡ self.old.file }
@@ -245,7 +249,7 @@ impl<'r, R: ReplacesFiles, E: Write> StatusFile<'r, R, E> {
 
     // Writes the counts at a moment, if it is known, or prints why it cannot.
     fn write(&mut self, moment: Option<u64>)
-        ensures file { IsBegun moment self.old.file self.new.file }
+        ensures file { IsBegun false moment self.old.file self.new.file }
         ensures put { self.new.file.is_failing ≡ false → (state : State)
             × PutsFigures (R.was_put self.old.file.name) (figures_of self.old state) }
         ensures other { self.new ≡ record self.old {
@@ -255,7 +259,9 @@ impl<'r, R: ReplacesFiles, E: Write> StatusFile<'r, R, E> {
     {
         let figures = self.figures();
         let written = write_file(self.runtime, self.alloc, &mut self.file, &figures);
-        let _ = self.file.note(moment, "status", written, &mut self.errors);
+        let _ = self
+            .file
+            .note(moment, false, "status", written, &mut self.errors);
     }
 
     // Writes the counts at the end, and returns the writer.
@@ -289,6 +295,7 @@ fn write_file<R: ReplacesFiles>(
 ) -> Result<(), Trouble>
     ensures put { OnOk result (PutsFigures (R.was_put file.old.name) figures.now) }
     ensures counted { file.new ≡ record file.old {
+      begins = next_count file.old.begins;
       puts = puts_after (is_err result) file.old.puts;
     } }
 {

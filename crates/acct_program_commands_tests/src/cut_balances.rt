@@ -5,7 +5,7 @@ use acct_book::{Book, MemBook};
 use acct_model::{Text, TopUp};
 use acct_program_args::BalancesFile;
 use acct_program_commands::{
-    Gauges, KeptBalances, ReplacesFiles, StateSource, StatusFile, Watch, Watched,
+    Gauges, KeptBalances, ReplacedName, ReplacesFiles, StateSource, StatusFile, Watch, Watched,
 };
 use acct_reads::ReadsFiles;
 use acct_service::lists::ListExchange;
@@ -75,6 +75,10 @@ impl Clock for Disk {
 impl ReadsFiles for Disk {
     type Reader = Found;
 
+    ghost leads_to = { λ _ _. ⊤ };
+
+    ghost was_opened = { λ _ _. ⊤ };
+
     fn metadata(&self, _path: &str) -> io::Result<Metadata> {
         missing()
     }
@@ -103,11 +107,11 @@ impl ReplacesFiles for Disk {
 
     ghost was_put = { λ _ _. ⊤ };
 
-    fn open_empty(&self, _name: &str, _mode: u32) -> io::Result<NewFile> {
+    fn open_empty(&self, _name: &ReplacedName, _mode: u32) -> io::Result<NewFile> {
         Ok(NewFile { room: self.room })
     }
 
-    fn put_in_place(&self, _file: NewFile, _new_name: &str, _name: &str) -> io::Result<()> {
+    fn put_in_place(&self, _file: NewFile, _name: &ReplacedName) -> io::Result<()> {
         self.replaced.set(self.replaced.get().saturating_add(1));
         Ok(())
     }

@@ -94,6 +94,41 @@ fn many_balances_are_written(rt: HostRuntime) -> Result<(), Fail> {
     Ok(())
 }
 
+// When the file of balances was written last, if it was written at 3000 and is kept once more at
+// this moment.
+fn last_written(rt: &HostRuntime, book: &mut MemBook, moment: u64) -> Result<Option<u64>, Fail> {
+    let asked = BalancesFile {
+        file: Text::from_str(rt.alloc(), "many-balances")?,
+        seconds: 5,
+    };
+    let config = sample_config(rt.alloc())?;
+    let mut kept = KeptBalances::new(rt, rt.alloc(), &asked)?;
+    let (gauges, mut told) = (Gauges::new(), Vec::new(rt.alloc()));
+    for at in [3000, moment] {
+        kept.keep(rt.alloc(), &config.plans, book, at, &gauges, &mut told);
+    }
+    Ok(gauges.balances().map(|written| written.at))
+}
+
+// When that of 20,000 accounts was, and that of one account more, at several moments.
+fn rests(rt: &HostRuntime) -> Result<[Option<u64>; 4], Fail> {
+    let mut book = MemBook::new(rt.alloc());
+    fill(rt.alloc(), &mut book, 20_000, 1)?;
+    let short = last_written(rt, &mut book, 3005)?;
+    let topup = TopUp::new(rt.alloc(), "V-more", b"one more", 1, 1000)?;
+    book.put_topup(&topup, 7)?;
+    let long = last_written(rt, &mut book, 3005)?;
+    let still = last_written(rt, &mut book, 6599)?;
+    Ok([short, long, still, last_written(rt, &mut book, 6600)?])
+}
+
+#[test]
+fn a_long_file_rests_for_an_hour(rt: HostRuntime) -> Result<(), Fail> {
+    assert!(rt; rests(&rt)? == [Some(3005), Some(3000), Some(3000), Some(6600)]);
+    fs::remove_file(&rt, "many-balances")?;
+    Ok(())
+}
+
 const DEFAULT: &str = "[[plan]]\nclass = \"default\"\nblock = 1000000\nunit = 5\n";
 
 // A configuration of the plan `default`, and of so many clients, other plans and keys.

@@ -1,6 +1,6 @@
 //! What is known about a log that is damaged.
-use acct_reads::ReadsFiles;
-use acct_sql_log::{Damage, damage_beside, has_lost_book, log_name};
+use acct_reads::{ReadsFiles, log_name};
+use acct_sql_log::{Damage, damage_beside, has_lost_book};
 use std::alloc::Global;
 use std::io::Write;
 
@@ -57,7 +57,7 @@ pub(crate) fn tell_lost<R: ReadsFiles, E: Write>(
     if !has_lost_book(runtime, alloc, file) {
         return false;
     }
-    let Some(log) = log_name(runtime, alloc, file) else {
+    let Ok(log) = log_name(runtime, alloc, file) else {
         return false;
     };
     let _ = writeln!(

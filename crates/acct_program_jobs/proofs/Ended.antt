@@ -25,6 +25,12 @@ pub done_well : (ended : Result Status Fault) → IfOk ended (λ s. s ≡ status
 done_well (Ok s) done = λ bad. cc
 done_well (Err told) done = tt
 
+-- what holds anyway holds if a command ended well
+pub however_it_ended : {A E : Type 0} (P : Type 0) → P → (result : Result A E)
+    → IfOk result (λ done. P)
+however_it_ended P holds (Ok done) = holds
+however_it_ended P holds (Err told) = tt
+
 -- what holds with one configuration that was read holds with some
 pub with_config : {A E : Type 0} (IsHere : Config → Type 0) (P : Config → A → Type 0)
     (config : Config) → IsHere config → (result : Result A E) → IfOk result (P config)

@@ -32,10 +32,12 @@ use Rattle.acct_program_commands.specs.Auditing.{Audits}
 use Rattle.acct_program_commands.specs.Checks.{ChecksConfig, IsUnchecked, ReadsConfig}
 use Rattle.acct_program_commands.specs.Exports.{IsExportFault, plans_text}
 use Rattle.acct_program_commands.specs.KeptNames.{NamesSome}
+use Rattle.acct_program_commands.specs.Names.{NamesSeen}
 use Rattle.acct_program_commands.specs.Imports.{Runs}
 use Rattle.acct_program_commands.specs.Puts.{WasPut}
 use Rattle.acct_program_commands.specs.SignedKeys.{PrintsKey}
 use Rattle.acct_program_commands.specs.Survey.{RunsForward}
+use Rattle.acct_program_serving.specs.Files.{IsNamed}
 use Rattle.acct_program_serving.specs.Serving.{RunsServer}
 use Rattle.acct_program_commands.specs.declared.fault.Fault.{Fault}
 use Rattle.acct_program_commands.specs.declared.fault.Fault.TheVariants as fault
@@ -297,12 +299,12 @@ module _ {D : Type 0} {g : disk.Ghosts D} where
   module _ (image : Image) {X M : Type 0} (b : book.Ghosts (Held (FileStore D g)))
       (x : exchange.Ghosts X) (IsBound : Listening → X → Type 0) (m : book.Ghosts M)
       (text before after : Option (List ℕ)) where
-    -- turns of a server over the book of this name, and an import at a moment, with a
-    -- configuration
-    abbrev pub HasServed : List ℕ → List ℕ → Serving → Config → Result Status Fault
+    -- turns of a server over a book whose names were seen so before it was opened, and an import at
+    -- a moment, with a configuration
+    abbrev pub HasServed : List ℕ → Option NamesSeen → Serving → Config → Result Status Fault
         → Held (FileStore D g) → Held (FileStore D g) → Type 0
-    HasServed file name serving config =
-        RunsServer b x WasPut (IsBound serving.listening) (Some file) None None name serving config
+    HasServed file seen serving config =
+        RunsServer b x WasPut (IsBound serving.listening) (Some file) None None seen serving config
         before after
 
     abbrev pub HasImported : ℕ → Config → Result Status Fault → Held (FileStore D g)
@@ -324,8 +326,9 @@ module _ {D : Type 0} {g : disk.Ghosts D} where
         (FailsToMakeNew image file has_sums) ended rest
     DoesBookJob file name (of_book.Serve serving) ended rest =
         KeepsOthers serving.telling.status serving.telling.balances before after ended rest
-        ⊎ ClosesOrFails (WorksAndCloses image file (HasServed file name serving))
-        (FailsAtWork image file (HasServed file name serving)) ended rest
+        ⊎ ((seen : Option NamesSeen) × IfSome seen (IsNamed name)
+        × ClosesOrFails (WorksAndCloses image file (HasServed file seen serving))
+        (FailsAtWork image file (HasServed file seen serving)) ended rest)
     DoesBookJob file name of_book.Import ended rest = (moment : ℕ) × (moment < 2 ^ 53)
         × ClosesOrFails (WorksAndCloses image file (HasImported moment))
         (FailsAtWork image file (HasImported moment)) ended rest

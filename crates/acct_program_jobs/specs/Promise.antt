@@ -25,6 +25,7 @@ use Rattle.acct_program_args.specs.declared.job.BookJob.TheVariants as of_book
 use Rattle.acct_program_args.specs.declared.job.Listening.{Listening}
 use Rattle.acct_program_args.specs.declared.job.Serving.{Serving}
 use Rattle.acct_program_commands.specs.Checks.{ReadsConfig}
+use Rattle.acct_program_commands.specs.Names.{NamesSeen}
 use Rattle.acct_program_commands.specs.Puts.{WasPut}
 use Rattle.acct_program_commands.specs.declared.fault.Fault.{Fault}
 use Rattle.acct_program_serving.specs.Promise.{visits_of}
@@ -53,18 +54,18 @@ IsFoundNext g files image =
 module _ {D : Type 0} {g : disk.Ghosts D} {X : Type 0} (image : Image)
     (b : book.Ghosts (Held (FileStore D g))) (x : exchange.Ghosts X)
     (IsBound : Listening → X → Type 0) (printed after : Option (List ℕ))
-    (file name : List ℕ) (serving : Serving) where
-  -- a server over the book of this name ran this way
+    (file : List ℕ) (seen : Option NamesSeen) (serving : Serving) where
+  -- a server over a book whose names were seen so ran this way
   abbrev pub Serves : Config → Result Status Fault → Held (FileStore D g) → Held (FileStore D g)
       → Type 0
   Serves config result first last = RunsServer b x WasPut (IsBound serving.listening)
-      (Some file) None None name serving config printed after result first last
+      (Some file) None None seen serving config printed after result first last
 
   -- its visits
   abbrev pub visits_by : (config : Config) (result : Result Status Fault)
       (first last : Held (FileStore D g)) → Serves config result first last → List Visit
   visits_by config result first last run = visits_of b x WasPut
-      (IsBound serving.listening) (Some file) None None name serving config printed after first last
+      (IsBound serving.listening) (Some file) None None serving config printed after first last seen
       result run
 
   -- A server ran with this configuration from the book that the files held to this one. From each
@@ -118,4 +119,5 @@ abbrev pub FilesAreRight : {D : Type 0} {g : disk.Ghosts D} {X : Type 0} → Ima
 FilesAreRight {D} {g} image b x IsBound = (text printed after : Option (List ℕ))
     (file name : List ℕ) (serving : Serving) (ended : Result Status Fault) (rest : Left D g)
     → DoesBookJob image b x IsBound b text printed after file name (of_book.Serve serving) ended
-    rest → EndsRightly image b x IsBound printed after file name serving ended rest
+    rest → (seen : Option NamesSeen)
+    × EndsRightly image b x IsBound printed after file seen serving ended rest

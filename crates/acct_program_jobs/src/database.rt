@@ -11,6 +11,7 @@ ghost use Rattle.sqlite_store.specs.FileStore.{view};
 ghost use Rattle.acct_program_jobs.specs.Faults.{store_fault_of};
 ghost use Rattle.acct_program_jobs.specs.Files.{IsBookOf, IsMade, IsRefused, HasNotMade, IsUnread};
 ghost use Rattle.acct_program_jobs.specs.Files.{Copies, IsGuarded, IsUnclosed, IsUnlisted};
+ghost use Rattle.acct_program_jobs.specs.Looks.{IsReadable};
 ghost use Rattle.acct_program_jobs.specs.inner.Files.{IsOpenedOn};
 
 use crate::book_file::BookFile;
@@ -19,6 +20,7 @@ use crate::looked::Looked;
 use crate::making::Making;
 use acct_model::{Plans, Text};
 use acct_program_commands::{Fault, MakesFiles, StoreFault};
+use acct_reads::ReadsFiles;
 use acct_sql::{SqlBook, SqlBookError};
 use acct_sql_tables::idle::connection_is_idle;
 use acct_sql_upkeep::listing::kept_plans;
@@ -26,6 +28,7 @@ use sqlite::{Connection, FileFrom, FileStore, Files, Options, Start};
 use sqlite_disk::Disk;
 use std::alloc::Global;
 use std::hash::{BuildHasher, RandomState};
+use std::io::Read;
 
 /// A book in a file that held what `S` says.
 pub type FileBook<S> = SqlBook<FileStore<FileFrom<S>>>;
@@ -57,6 +60,10 @@ pub fn made<S: Start>(
         → IsMade making (image_at S.Start) plans.now done.1 done.0) }
     ensures refused { IfErr result (λ e.
         HasNotMade making (image_at S.Start) plans.now e.0 e.1) }
+    ensures readable { IfOk result (λ _. IsReadable ⟦<HostRuntime as ReadsFiles>⟧.leads_to
+        ⟦<HostRuntime as ReadsFiles>⟧.was_opened
+        ⟦<<HostRuntime as ReadsFiles>::Reader as Read>⟧.remaining
+        files.entry.database.now files.entry.loses_commits) }
 {
     let (sums, file) = (making.sums(), files.database);
     let looked = match Looked::at(runtime, files, sums.is_some()) {
@@ -88,6 +95,10 @@ pub fn adopted<S: Start>(
     ensures adopted { IfOk result (λ book. HasCleanDisk (file_state book)
         → IsBookOf (image_at S.Start) plans.now book) }
     ensures refused { IfErr result (λ e. IsRefused (image_at S.Start) plans.now e.0 e.1) }
+    ensures readable { IfOk result (λ _. IsReadable ⟦<HostRuntime as ReadsFiles>⟧.leads_to
+        ⟦<HostRuntime as ReadsFiles>⟧.was_opened
+        ⟦<<HostRuntime as ReadsFiles>::Reader as Read>⟧.remaining
+        files.entry.database.now files.entry.loses_commits) }
 {
     let looked = match Looked::at(runtime, files, false) {
         Ok(looked) => looked,
@@ -112,6 +123,10 @@ pub fn listed<S: Start>(
     ensures kept { IfOk result (λ done. HasCleanDisk (file_state done.1)
         → IsBookOf (image_at S.Start) done.0 done.1) }
     ensures refused { IfErr result (λ e. IsUnlisted (image_at S.Start) e.0 e.1) }
+    ensures readable { IfOk result (λ _. IsReadable ⟦<HostRuntime as ReadsFiles>⟧.leads_to
+        ⟦<HostRuntime as ReadsFiles>⟧.was_opened
+        ⟦<<HostRuntime as ReadsFiles>::Reader as Read>⟧.remaining
+        files.entry.database.now files.entry.loses_commits) }
 {
     let looked = match Looked::at(runtime, files, false) {
         Ok(looked) => looked,

@@ -4,16 +4,15 @@
 //! none, and it blocks on a pipe. It stops reading a damaged log at the damage, and writes behind
 //! it. It empties a log next to a file without a database. A mistyped name must do none of this. So
 //! an open takes files that were looked at, and nothing but a look makes these.
-ghost use Rattle.std.specs.Prelude.{◌≡◌, false, IfOk, IfErr};
+ghost use Rattle.std.specs.Prelude.{◌≡◌, false, true, IfOk, IfErr};
 ghost use Rattle.acct_program_jobs.specs.Files.{IsUnlooked};
+ghost use Rattle.acct_program_jobs.specs.Looks.{IsReadable};
 
 use crate::book_file::BookFile;
 use acct_model::Text;
 use acct_program_commands::{Fault, StoreFault};
-use acct_reads::ReadsFiles;
-use acct_sql_log::{
-    DATABASE_HEADER_OCTETS, LOG_HEADER_OCTETS, damage_beside, has_lost_book, log_name,
-};
+use acct_reads::{ReadsFiles, log_name};
+use acct_sql_log::{DATABASE_HEADER_OCTETS, LOG_HEADER_OCTETS, damage_beside, has_lost_book};
 
 /// The files of a book that may be opened.
 #[derive(Clone, Copy)]
@@ -34,6 +33,8 @@ impl<'a> Looked<'a> {
         is_new: bool,
     ) -> Result<Looked<'a>, Fault>
         ensures files { IfOk result (λ looked. looked.files ≡ files.entry) }
+        ensures readable { IfOk result (λ _. IsReadable R.leads_to R.was_opened R.Reader.remaining
+            files.entry.database.now files.entry.loses_commits) }
         ensures why { IfErr result (IsUnlooked is_new) }
     {
         match check_file(runtime, files.database, is_new) {
@@ -86,18 +87,23 @@ fn check_existing<R: ReadsFiles + AllocGlobal>(runtime: &R, file: &Text) -> Resu
 
 // Whether the log of a database may be read: it was read to its end and is not damaged, or what is
 // behind the damage may be lost.
-fn is_readable<R: ReadsFiles + AllocGlobal>(runtime: &R, files: BookFile<'_>) -> bool {
-    files.loses_commits
-        || matches!(
-            damage_beside(runtime, runtime.alloc(), files.database.as_str()),
-            Ok(None)
-        )
+fn is_readable<R: ReadsFiles + AllocGlobal>(runtime: &R, files: BookFile<'_>) -> bool
+    ensures { result ≡ true → IsReadable R.leads_to R.was_opened R.Reader.remaining
+        files.entry.database.now files.entry.loses_commits }
+{
+    if files.loses_commits {
+        return true;
+    }
+    match damage_beside(runtime, runtime.alloc(), files.database.as_str()) {
+        Ok(None) => true,
+        Ok(Some(_)) | Err(_) => false,
+    }
 }
 
 // Whether the log of a database has a frame. If there is no memory for its name, it counts as
 // having one.
 fn has_log<R: ReadsFiles + AllocGlobal>(runtime: &R, file: &Text) -> bool {
-    let Some(log) = log_name(runtime, runtime.alloc(), file.as_str()) else {
+    let Ok(log) = log_name(runtime, runtime.alloc(), file.as_str()) else {
         return true;
     };
     match runtime.metadata(log.as_str()) {

@@ -9,6 +9,7 @@ ghost use Rattle.acct_program_commands.specs.declared.fault.Fault.{Fault};
 ghost use Rattle.acct_program_commands.specs.Imports.{Runs};
 ghost use Rattle.acct_program_commands.specs.Survey.{RunsForward};
 ghost use Rattle.acct_program_args.specs.Orders.{IsBounded};
+ghost use Rattle.acct_program_serving.specs.Files.{seen_before};
 ghost use Rattle.acct_program_serving.specs.Serving.{AreReports, IsBoundTo, RunsServer};
 ghost use Rattle.acct_program_jobs.specs.Files.{Copies};
 ghost use Rattle.acct_program_jobs.specs.Commands.{IsNotClosed};
@@ -26,7 +27,6 @@ use acct_program::Status;
 use acct_program_args::{Carrying, Serving};
 use acct_program_commands::{ClockReading, Fault, ReplacesFiles, run_forward, run_import};
 use acct_program_serving::{Errors, Surroundings, run_serve};
-use acct_reads::ReadsFiles;
 use acct_service::Exchange;
 use acct_site::Config;
 use acct_sql::SqlBook;
@@ -159,10 +159,10 @@ impl<W: Write, E: Write + Drop> Work<W> for Forward<'_, E> {
 pub(crate) struct Server<'a, R, E: Drop> {
     pub(crate) serving: &'a Serving,
     pub(crate) file: &'a Text,
-    pub(crate) around: Surroundings<ExplainedSite<'a, R>, E>,
+    pub(crate) around: Surroundings<'a, R, ExplainedSite<'a, R>, E>,
 }
 
-impl<R: ReadsFiles + Clock, W: Write, E: Write + Drop> Work<W> for Server<'_, R, E> {
+impl<W: Write, E: Write + Drop> Work<W> for Server<'_, HostRuntime, E> {
     // Its sockets for reports are bound already, and the book is not open yet.
     ghost is_ready = { λ it. IsBounded it.serving.now
         × AreReports it.serving.now.listening it.around.reports };
@@ -173,8 +173,8 @@ impl<R: ReadsFiles + Clock, W: Write, E: Write + Drop> Work<W> for Server<'_, R,
         ⟦<Sockets<'static, HostRuntime> as Exchange>⟧
         ⟦<HostRuntime as ReplacesFiles>⟧.was_put
         (IsBoundTo it.serving.now.listening)
-        (Some it.around.source.file.name.now) None None it.file.now it.serving.now config before
-        after ended first last };
+        (Some it.around.source.file.name.now) None None (seen_before it.around.names)
+        it.serving.now config before after ended first last };
 
     fn over<B: Book>(
         self,

@@ -1,4 +1,5 @@
-//! A server whose book is moved while it serves: from the next round on it answers nobody.
+//! A server whose book is moved: while it serves, it answers nobody from the next round on; before
+//! its first turn, it does not begin.
 ghost use Rattle.std.specs.Prelude.{◌≡◌, IfOk, None};
 
 use crate::rounds::{START, site_of};
@@ -7,10 +8,10 @@ use acct_book::MemBook;
 use acct_model::{Octets, Text};
 use acct_program::{InputFault, Status};
 use acct_program_args::{Listening, Serving, Syncs, Telling};
-use acct_program_commands::SiteSource;
+use acct_program_commands::{BookNames, Fault, Shared, SiteSource};
 use acct_program_serving::{Errors, Surroundings, bind_reports, run_serve};
 use std::alloc::Global;
-use std::cell::Cell;
+use std::cell::{Cell, RefCell};
 use std::io::Write;
 use std::net::{Ipv4Addr, TcpListener, UdpSocket};
 use std::test::Fail;
@@ -137,6 +138,10 @@ fn serving(rt: &HostRuntime) -> Result<Serving, Fail>
 // The reports of the first slice are answered, those of the second one are lost.
 const OUTPUT: &str = "serving\nevents 240, replies 240, mute 0, faults 0\n";
 
+const NOT_SERVED: &str =
+    "db: the name of silenced-book, or of its log, leads to another file or to \
+    none: it is not served\n";
+
 // Whether the file of its counts says that its book is not there.
 fn tells_loss(rt: &HostRuntime) -> Result<bool, Fail> {
     let counts = fs::read_to_string(rt, STATUS)?;
@@ -148,10 +153,34 @@ fn tells_loss(rt: &HostRuntime) -> Result<bool, Fail> {
     )
 }
 
-// Whether the server prints this, and says so in the file of its counts.
-fn is_silenced(runtime: &Staged, client: &UdpSocket) -> Result<bool, Fail> {
+// What came of a server: how it ended, and what it printed on its output and among its notices.
+#[derive(Drop)]
+struct Came {
+    ended: Result<Status, Fault>,
+    output: Vec<u8>,
+    notices: Vec<u8>,
+}
+
+// The names of the book, which may be moved once they were looked at.
+fn names<'a>(
+    runtime: &'a Staged,
+    database: &Text,
+    is_moved: bool,
+) -> Result<BookNames<'a, Staged>, Fail> {
+    let names = BookNames::new(runtime, runtime.host.alloc(), database)?;
+    if is_moved {
+        fs::rename(runtime, BOOK, MOVED)?;
+    }
+    Ok(names)
+}
+
+// What came of a server whose book is moved once it serves, or between the first look at its names
+// and its start.
+fn came(runtime: &Staged, client: &UdpSocket, is_moved: bool) -> Result<Came, Fail> {
     let alloc = runtime.host.alloc();
     let (config, serving) = (site_of(alloc, SITE)?, serving(&runtime.host)?);
+    let database = Text::from_str(alloc, BOOK)?;
+    let names = names(runtime, &database, is_moved)?;
     let sender = Sender {
         client,
         port: serving.listening.radius_port,
@@ -161,12 +190,14 @@ fn is_silenced(runtime: &Staged, client: &UdpSocket) -> Result<bool, Fail> {
         sender,
         text: Vec::new(alloc),
     };
+    let notices = RefCell::new(Vec::new(alloc));
     let around = Surroundings {
         reports: bind_reports(runtime, alloc, &serving.listening),
+        names: Ok(names),
         source: sender,
         errors: Errors {
             drops: None,
-            notices: Vec::new(alloc),
+            notices: Shared::new(&notices),
             explains: false,
         },
     };
@@ -175,13 +206,30 @@ fn is_silenced(runtime: &Staged, client: &UdpSocket) -> Result<bool, Fail> {
         alloc,
         &config,
         around,
-        &Text::from_str(alloc, BOOK)?,
+        &database,
         &mut MemBook::new(alloc),
         &serving,
         &mut output,
     );
-    let is_printed = output.text.as_slice() == OUTPUT.as_bytes();
-    Ok(ended == Ok(Status::Done) && is_printed && tells_loss(&runtime.host)?)
+    Ok(Came {
+        ended,
+        output: Vec::from_slice(alloc, output.text.as_slice())?,
+        notices: notices.into_inner(),
+    })
+}
+
+// Whether the server prints this, and says so in the file of its counts.
+fn is_silenced(runtime: &Staged, client: &UdpSocket) -> Result<bool, Fail> {
+    let came = came(runtime, client, false)?;
+    let is_printed = came.output.as_slice() == OUTPUT.as_bytes();
+    Ok(came.ended == Ok(Status::Done) && is_printed && tells_loss(&runtime.host)?)
+}
+
+// Whether the server begins no turn, and a notice says why.
+fn is_not_begun(runtime: &Staged, client: &UdpSocket) -> Result<bool, Fail> {
+    let came = came(runtime, client, true)?;
+    let is_told = came.notices.as_slice() == NOT_SERVED.as_bytes();
+    Ok(came.ended == Err(Fault::CannotOpen) && came.output.is_empty() && is_told)
 }
 
 #[test]
@@ -193,6 +241,8 @@ fn a_lost_book_answers_nobody(rt: HostRuntime) -> Result<(), Fail> {
         moment: Cell::new(1_700_000_101),
     };
     assert!(runtime.host; is_silenced(&runtime, &client)?);
+    fs::rename(&runtime, MOVED, BOOK)?;
+    assert!(runtime.host; is_not_begun(&runtime, &client)?);
     fs::remove_file(&runtime, MOVED)?;
     fs::remove_file(&runtime, STATUS)?;
     Ok(())

@@ -9,7 +9,7 @@ use crate::staged::Staged;
 use acct_model::Text;
 use acct_program::Status;
 use acct_program_args::{BalancesFile, Listening, Serving, Syncs, Telling};
-use acct_program_commands::{Shared, SiteFile};
+use acct_program_commands::{BookNames, Shared, SiteFile};
 use acct_program_serving::{Errors, Surroundings, bind_reports, run_serve};
 use acct_site::Config;
 use std::alloc::Global;
@@ -149,6 +149,7 @@ fn run(
     };
     let around = Surroundings {
         reports: bind_reports(runtime, alloc, &serving.listening),
+        names: BookNames::new(runtime, alloc, &database),
         source: stage,
         errors: Errors {
             drops: Some(Shared::new(errors)),

@@ -1,5 +1,5 @@
 -- A run over an exchange is one over any other that counts and records the same.
-use Rattle.std.specs.Prelude.{◌≡◌, ◌-◌, ⊤, ℕ, List, [], ◌∷◌, Option, Some, None}
+use Rattle.std.specs.Prelude.{◌≡◌, ◌-◌, ⊤, ℕ, Bool, List, [], ◌∷◌, Option, Some, None}
 use Rattle.std.proofs.Common.{◌∙◌, subst, sym, ap}
 use Rattle.acct_book.specs.declared.book.Book as book
 use Rattle.acct_book.specs.Content.{Content}
@@ -16,6 +16,7 @@ use Rattle.acct_program_args.specs.declared.job.BalancesFile.{BalancesFile}
 use Rattle.acct_program_args.specs.declared.job.Serving.{Serving}
 use Rattle.acct_program_args.specs.Orders.{seconds_of}
 use Rattle.acct_program_commands.specs.Fresh.{IsDue}
+use Rattle.acct_program_commands.specs.Names.{NamesSeen}
 use Rattle.acct_program_commands.specs.Placed.{IsPut, PutsBalances}
 use Rattle.acct_program_commands.specs.Rounds.{GoesRound, KeepsAt, RoundState, are_away, file_of}
 use Rattle.acct_program_commands.specs.Unwritten.{Rewrites}
@@ -118,10 +119,10 @@ however b oldest config old new told later Went Goes so limit made served why ru
 module _ {B X : Type 0} (b : book.Ghosts B) (x : exchange.Ghosts X)
     (Put : List ℕ → List ℕ → Type 0) (IsBound : X → Type 0)
     (file : Option (List ℕ)) (polls : Option (List Poll)) (moments : Option (List ℕ))
-    (path : List ℕ) (serving : Serving) (known then : RoundState) (config : Config)
+    (names : NamesSeen) (serving : Serving) (known then : RoundState) (config : Config)
     (before_all old new : B)
     (begins : Begins (λ name. PutsBalances (Put name) (b.content before_all)
-    (b.is_open old)) serving.telling.balances file polls moments path known)
+    (b.is_open old)) serving.telling.balances file polls moments names known)
     (Went : List Slice → Type 0)
     (so : (slices : List Slice) → Went slices → RoundsAfter Put (b.is_open new) known slices then)
     (looked : OnlyLooks b before_all old) (first last : X)
@@ -158,7 +159,7 @@ module _ {B X : Type 0} (b : book.Ghosts B) (x : exchange.Ghosts X)
   pub ends_afresh : (before after : Option (List ℕ)) (ended : Ended)
       → EndsOver b x (seconds_of serving.oldest_report) config serving.turns Went old new first last
       before after ended
-      → EndsAfresh b x Put IsBound file polls moments path serving config before_all new last
+      → EndsAfresh b x Put IsBound file polls moments names serving config before_all new last
       before after ended
   ends_afresh before after ended ends = record {
     begun = old;
@@ -183,5 +184,5 @@ kept_first IsPut None (Some old) new moment same keeps = elim same [ ]
 kept_first IsPut (Some file) None new moment same keeps = elim same [ ]
 kept_first IsPut (Some file) (Some old) None moment same keeps = elim keeps [ ]
 kept_first IsPut (Some file) (Some old) (Some new) moment same (due, idle) =
-    subst (λ was. Rewrites IsPut moment was new.file) same
+    subst (λ was. (is_long : Bool) × Rewrites is_long IsPut moment was new.file) same
     (due (subst (λ was. IsDue was.pause was.begun_at moment) (sym same) tt))

@@ -1,6 +1,6 @@
 -- The promise of `serve`, by that of the visits of its run.
 use Rattle.std.proofs.Common.{◌≡◌, ℕ, List, [], sym, subst, refl, inl, inr, arith}
-use Rattle.std.specs.Prelude.{Bool, Option, None, Contains}
+use Rattle.std.specs.Prelude.{Option, None, Contains}
 use Rattle.acct_model.specs.declared.plan.Plan.{Plan}
 use Rattle.acct_model.specs.History.{History}
 use Rattle.acct_book.specs.declared.book.Book as book
@@ -16,6 +16,7 @@ use Rattle.acct_service.specs.Serving.{Attends}
 use Rattle.acct_service.specs.Slices.{visits_in}
 use Rattle.acct_program_args.specs.declared.job.Listening.{Listening}
 use Rattle.acct_program_args.specs.declared.job.Serving.{Serving}
+use Rattle.acct_program_commands.specs.Names.{NamesSeen}
 use Rattle.acct_program_commands.specs.Sights.{Poll}
 use Rattle.acct_program_serving.specs.Promise.{visits_at, ServesRightly}
 use Rattle.acct_program_serving.specs.Serving.{EndsAfresh}
@@ -71,22 +72,21 @@ module _ {B X : Type 0} (b : book.Ghosts B) (x : exchange.Ghosts X)
 
   module _ (Put : List ℕ → List ℕ → Type 0) (IsBound : X → Type 0)
       (text : Option (List ℕ)) (polls : Option (List Poll)) (moments : Option (List ℕ))
-      (file : List ℕ) (serving : Serving) (config : Config) (printed after : Option (List ℕ))
-      (old new : B) where
-    ended_right : (last : X) (ended : Ended) (before : History)
-        (it : EndsAfresh b x Put IsBound text polls moments file serving config old new last printed
-        after ended) → BeganWith b config.plans before old → b.is_sound new
+      (serving : Serving) (config : Config) (printed after : Option (List ℕ)) (old new : B) where
+    ended_right : (names : NamesSeen) (last : X) (ended : Ended) (before : History)
+        (it : EndsAfresh b x Put IsBound text polls moments names serving config old new last
+        printed after ended) → BeganWith b config.plans before old → b.is_sound new
         → EveryBalanceIsRight b config.plans before (visits_at b x Put IsBound text polls moments
-        file serving config printed after old new last ended it) new
-    ended_right last (how.Told served why) before it began sound =
+        serving config printed after old new names last ended it) new
+    ended_right names last (how.Told served why) before it began sound =
         let run = it.ends.0.run in
         after_look config.plans before (visits_in run.slices) old it.begun new _ _ it.looked
         run.attends began sound
-    ended_right last (how.Untold served why) before it began sound =
+    ended_right names last (how.Untold served why) before it began sound =
         let run = it.ends.run in
         after_look config.plans before (visits_in run.slices) old it.begun new _ _ it.looked
         run.attends began sound
-    ended_right last how.NotBegun before it began sound =
+    ended_right names last how.NotBegun before it began sound =
         let same : new ≡ it.begun = it.ends.0 in
         let was : b.is_sound it.begun = subst (λ (one : B). b.is_sound one) same sound in
         subst (λ (one : B). EveryBalanceIsRight b config.plans before [] one) (sym same)
@@ -96,12 +96,16 @@ module _ {B X : Type 0} (b : book.Ghosts B) (x : exchange.Ghosts X)
   module _ (begins : OpenBooksBegin b) where
     pub serves_rightly : (Put : List ℕ → List ℕ → Type 0)
         (IsBound : Listening → X → Type 0) → ServesRightly b x Put IsBound
-    serves_rightly Put IsBound text polls moments file serving config printed after result old new
+    serves_rightly Put IsBound text polls moments seen serving config printed after result old new
         before (inl (told, is, why, same, unprinted)) opened stood sound =
         subst (λ (one : B). EveryBalanceIsRight b config.plans before [] one) (sym same)
         (none_right config.plans before old (begins config.plans before old opened stood)
         (subst (λ (one : B). b.is_sound one) same sound))
-    serves_rightly Put IsBound text polls moments file serving config printed after result old new
-        before (inr (ended, is, (last, it))) opened stood sound =
-        ended_right Put (IsBound serving.listening) text polls moments file serving config printed
-        after old new last ended before it (begins config.plans before old opened stood) sound
+    serves_rightly Put IsBound text polls moments seen serving config printed after result old new
+        before (inr (inl (names, was, moved, is, looked, unprinted))) opened stood sound =
+        none_right config.plans before new (looked_began config.plans before old new looked
+        (begins config.plans before old opened stood) sound) sound
+    serves_rightly Put IsBound text polls moments seen serving config printed after result old new
+        before (inr (inr (ended, is, (names, was, (last, it))))) opened stood sound =
+        ended_right Put (IsBound serving.listening) text polls moments serving config printed after
+        old new names last ended before it (begins config.plans before old opened stood) sound

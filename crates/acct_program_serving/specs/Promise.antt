@@ -12,6 +12,7 @@ use Rattle.acct_service.specs.Slices.{visits_in}
 use Rattle.acct_program.specs.declared.status.Status.{Status}
 use Rattle.acct_program_args.specs.declared.job.Listening.{Listening}
 use Rattle.acct_program_args.specs.declared.job.Serving.{Serving}
+use Rattle.acct_program_commands.specs.Names.{NamesSeen}
 use Rattle.acct_program_commands.specs.Sights.{Poll}
 use Rattle.acct_program_commands.specs.declared.fault.Fault.{Fault}
 use Rattle.acct_program_serving.specs.Serving.{EndsAfresh, RunsServer}
@@ -21,34 +22,35 @@ use Rattle.acct_program_serving.specs.declared.ended.Ended.TheVariants as how
 module _ {B X : Type 0} (b : book.Ghosts B) (x : exchange.Ghosts X)
     (Put : List ℕ → List ℕ → Type 0) (IsBound : X → Type 0)
     (text : Option (List ℕ)) (polls : Option (List Poll)) (moments : Option (List ℕ))
-    (file : List ℕ) (serving : Serving) (config : Config) (printed after : Option (List ℕ))
-    (old new : B) where
+    (serving : Serving) (config : Config) (printed after : Option (List ℕ)) (old new : B) where
   -- the visits of a server that ended this way: none before its first turn
-  abbrev pub visits_at : (last : X) (ended : Ended)
-      → EndsAfresh b x Put IsBound text polls moments file serving config old new last printed after
-      ended → List Visit
-  visits_at last (how.Told served why) afresh = visits_in afresh.ends.0.run.slices
-  visits_at last (how.Untold served why) afresh = visits_in afresh.ends.run.slices
-  visits_at last how.NotBegun afresh = []
+  abbrev pub visits_at : (names : NamesSeen) (last : X) (ended : Ended)
+      → EndsAfresh b x Put IsBound text polls moments names serving config old new last printed
+      after ended → List Visit
+  visits_at names last (how.Told served why) afresh = visits_in afresh.ends.0.run.slices
+  visits_at names last (how.Untold served why) afresh = visits_in afresh.ends.run.slices
+  visits_at names last how.NotBegun afresh = []
 
-  -- the visits of the command: none if its sockets could not be bound
-  abbrev pub visits_of : (result : Result Status Fault)
-      → RunsServer b x Put IsBound text polls moments file serving config printed after result old
+  -- the visits of the command: none if its sockets could not be bound, or its book was moved
+  abbrev pub visits_of : (seen : Option NamesSeen) (result : Result Status Fault)
+      → RunsServer b x Put IsBound text polls moments seen serving config printed after result old
       new
       → List Visit
-  visits_of result (inl unbound) = []
-  visits_of result (inr (ended, is, (last, afresh))) = visits_at last ended afresh
+  visits_of seen result (inl unbound) = []
+  visits_of seen result (inr (inl moved)) = []
+  visits_of seen result (inr (inr (ended, is, (names, was, (last, afresh))))) =
+      visits_at names last ended afresh
 
 -- However it ran and ended, over an open book whose content stood for a history, if at the end the
 -- store is as it promises.
 abbrev pub ServesRightly : {B X : Type 0} → book.Ghosts B → exchange.Ghosts X
     → (List ℕ → List ℕ → Type 0) → (Listening → X → Type 0) → Type 0
 ServesRightly {B} b x Put IsBound = (text : Option (List ℕ)) (polls : Option (List Poll))
-    (moments : Option (List ℕ)) (file : List ℕ) (serving : Serving) (config : Config)
+    (moments : Option (List ℕ)) (seen : Option NamesSeen) (serving : Serving) (config : Config)
     (printed after : Option (List ℕ))
     (result : Result Status Fault) (old new : B) (before : History)
-    (run : RunsServer b x Put (IsBound serving.listening) text polls moments file serving config
+    (run : RunsServer b x Put (IsBound serving.listening) text polls moments seen serving config
     printed after result old new)
     → b.is_open old → Stands config.plans (b.content old) before → b.is_sound new
     → EveryBalanceIsRight b config.plans before (visits_of b x Put (IsBound serving.listening)
-    text polls moments file serving config printed after old new result run) new
+    text polls moments serving config printed after old new seen result run) new

@@ -1,5 +1,5 @@
 -- What `serve` does, and how it ends.
-use Rattle.std.specs.Prelude.{◌≡◌, ◌⊎◌, ⊤, ℕ, true, List, [], ◌∷◌, Option, Result, Ok, Err}
+use Rattle.std.specs.Prelude.{◌≡◌, ◌⊎◌, ⊤, ℕ, true, List, [], ◌∷◌, Option, Some, Result, Ok, Err}
 use Rattle.std.specs.declared.fd.AsRawFd as fd
 use Rattle.std.specs.declared.io.traits.Read as read
 use Rattle.std.specs.declared.io.traits.Write as write
@@ -19,6 +19,7 @@ use Rattle.acct_net.specs.declared.sockets.Sockets.{Sockets}
 use Rattle.acct_program_args.specs.declared.job.Listening.{Listening}
 use Rattle.acct_program_args.specs.declared.job.Serving.{Serving}
 use Rattle.acct_program_args.specs.Orders.{seconds_of}
+use Rattle.acct_program_commands.specs.Names.{NamesSeen}
 use Rattle.acct_program_commands.specs.Placed.{IsPut, PutsBalances}
 use Rattle.acct_program_commands.specs.Rounds.{GoesRound, RoundState, are_away}
 use Rattle.acct_program_commands.specs.Sights.{Poll}
@@ -27,7 +28,7 @@ use Rattle.acct_program_commands.specs.declared.fault.Fault.TheVariants as fault
 use Rattle.acct_program_commands.specs.declared.fault.StoreFault.TheVariants as store
 use Rattle.acct_program.specs.declared.status.Status.{Status}
 use Rattle.acct_program.specs.declared.status.Status.TheVariants as status
-use Rattle.acct_program_serving.specs.Files.{Begins}
+use Rattle.acct_program_serving.specs.Files.{Begins, HaveMoved}
 use Rattle.acct_program_serving.specs.Runs.{Ran, whole_text}
 use Rattle.acct_program_serving.specs.declared.ended.Ended.{Ended}
 use Rattle.acct_program_serving.specs.declared.ended.Ended.TheVariants as how
@@ -104,11 +105,12 @@ module _ {B X : Type 0} (b : book.Ghosts B) (x : exchange.Ghosts X) where
 
   -- A server ended this way over an exchange that was bound so, and had made no turn and no fault.
   -- Before it began, the book was only read, for the file of balances. Its rounds went on from what
-  -- the text and its clock had shown, with the file of balances that was named and the name of this
-  -- book: each configuration is the first one, or was taken from a poll.
+  -- the text and its clock had shown, with the file of balances that was named and the names of the
+  -- book, which led where they had led: each configuration is the first one, or was taken from a
+  -- poll.
   pub record EndsAfresh (Put : List ℕ → List ℕ → Type 0) (IsBound : X → Type 0)
       (file : Option (List ℕ)) (polls : Option (List Poll)) (moments : Option (List ℕ))
-      (book : List ℕ) (serving : Serving) (config : Config) (old new : B) (last : X)
+      (names : NamesSeen) (serving : Serving) (config : Config) (old new : B) (last : X)
       (before after : Option (List ℕ)) (ended : Ended) : Type 0 where
     pub begun : B
     pub looked : OnlyLooks b old begun
@@ -119,18 +121,22 @@ module _ {B X : Type 0} (b : book.Ghosts B) (x : exchange.Ghosts X) where
     pub bound : IsBound first
     pub begins : Begins
         (λ name. PutsBalances (Put name) (b.content old) (b.is_open begun))
-        serving.telling.balances file polls moments book known
+        serving.telling.balances file polls moments names known
     pub then : RoundState
     pub ends : EndsOver (seconds_of serving.oldest_report) config serving.turns
         (λ slices. RoundsAfter Put (b.is_open new) known slices then) begun new first last before
         after ended
 
-  -- The command. The sockets could not be bound, and nothing was done. Or a server ended this way
+  -- The command. The sockets could not be bound, and nothing was done. Or a name of the book led
+  -- elsewhere than before it was opened, and the book was only read. Or a server ended this way
   -- over an exchange that was bound so, and had made no turn and no fault.
   abbrev pub RunsServer : (List ℕ → List ℕ → Type 0) → (X → Type 0)
-      → Option (List ℕ) → Option (List Poll) → Option (List ℕ) → List ℕ → Serving → Config
-      → Option (List ℕ) → Option (List ℕ) → Result Status Fault → B → B → Type 0
-  RunsServer Put IsBound file polls moments book serving config before after result old new =
+      → Option (List ℕ) → Option (List Poll) → Option (List ℕ) → Option NamesSeen → Serving
+      → Config → Option (List ℕ) → Option (List ℕ) → Result Status Fault → B → B → Type 0
+  RunsServer Put IsBound file polls moments seen serving config before after result old new =
       ((told : Fault) × (result ≡ Err told) × IsUnbound told × (new ≡ old) × (after ≡ before))
-      ⊎ ((ended : Ended) × (result ≡ ended_of ended) × ((last : X) × EndsAfresh Put IsBound file
-      polls moments book serving config old new last before after ended))
+      ⊎ (((names : NamesSeen) × (seen ≡ Some names) × HaveMoved names
+      × (result ≡ Err fault.CannotOpen) × OnlyLooks b old new × (after ≡ before))
+      ⊎ ((ended : Ended) × (result ≡ ended_of ended) × ((names : NamesSeen) × (seen ≡ Some names)
+      × ((last : X) × EndsAfresh Put IsBound file polls moments names serving config old new last
+      before after ended))))

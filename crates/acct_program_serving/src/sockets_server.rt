@@ -4,6 +4,8 @@
 //!    server serves waits in the system, as far as that has room.
 //! 2. Why they could not be bound is told where the desk is bound, which comes after the book. So no
 //!    fault of a socket hides one of the book.
+//! 3. The names of the book were looked at before it was opened, and are again before the first
+//!    turn: if one leads elsewhere by then, the start ends.
 ghost use Rattle.std.specs.Prelude.{◌≡◌, ◌≤◌, ◌<◌, ◌^◌, IfOk, IfErr, IfSome};
 ghost use Rattle.std.specs.Prelude.{◌∷◌, [], ℕ, List, None, Option, IsSomeAnd, MatchOption};
 ghost use Rattle.std.specs.List.{AllZip};
@@ -15,7 +17,8 @@ ghost use Rattle.acct_program_commands.specs.Names.{seen_of};
 ghost use Rattle.acct_program_commands.specs.Rounds.{KeepsAt, file_of};
 ghost use Rattle.acct_program_commands.specs.RoundStates.{state_of};
 ghost use Rattle.acct_program_args.specs.declared.job.BalancesFile.{BalancesFile};
-ghost use Rattle.acct_program_serving.specs.Files.{Begins, IsCounted, IsKept, IsNamed};
+ghost use Rattle.acct_program_serving.specs.Files.{Begins, HaveMoved, IsCounted, IsKept};
+ghost use Rattle.acct_program_serving.specs.Files.{seen_before};
 ghost use Rattle.acct_program_serving.specs.Serving.{AreReports, IsBoundTo, RunsServer, IsUnbound};
 ghost use Rattle.acct_program_serving.specs.Serving.{ended_of};
 
@@ -23,7 +26,7 @@ use crate::ended::Ended;
 use crate::watcher::Watcher;
 use acct_book::Book;
 use acct_model::{Text, address_of};
-use acct_net::{Datagrams, Sockets};
+use acct_net::{Binds, Datagrams, Sockets};
 use acct_program::Status;
 use acct_program_args::{Listening, Serving, Telling, seconds_in};
 use acct_program_commands::{
@@ -36,15 +39,16 @@ use std::alloc::{AllocError, Global};
 use std::cell::RefCell;
 use std::io;
 use std::io::{ErrorKind, Write};
-use std::net::Net;
 use std::time::Clock;
 
-/// What is around a server: its sockets for reports, the text of its configuration, and where it
-/// prints.
+/// What is around a server: its sockets for reports, the names of its book, the text of its
+/// configuration, and where it prints.
 #[derive(Drop)]
-pub struct Surroundings<S: Drop, E: Drop> {
+pub struct Surroundings<'r, R, S: Drop, E: Drop> {
     /// The sockets for reports, or why there are none.
     pub reports: Result<Datagrams, Fault>,
+    /// The names of the book, as they were before it was opened.
+    pub names: Result<BookNames<'r, R>, AllocError>,
     /// The text of the configuration, which is polled.
     pub source: S,
     /// Where it prints what the caller of the program should see.
@@ -69,19 +73,21 @@ pub struct Errors<E: Drop> {
 /// While it runs it prints on `errors`, if it may, what it drops and how much it receives. It
 /// writes the files that `serving` names, one of which shows the size of the book's file,
 /// `database`. If the configuration of `source` changed, the turns that follow have the new one:
-/// `FileRounds`. While a name of the book leads to another file than the one that is open, or to
-/// none, it answers nothing. It writes the file of balances before it prints that it serves. If that fails, the
-/// server begins all the same.
+/// `FileRounds`. While a name of the book leads to another file than before it was opened, or to
+/// none, it answers nothing. It writes the file of balances before it prints that it serves. If
+/// that fails, the server begins all the same.
 ///
 /// # Errors
 ///
 /// `CannotBind`, and `NoMemory` if there is no memory for datagrams or names: that of the sockets
-/// for reports before that of the desk's. The book and the output are then unchanged. `Store(Unavailable)` if the book was found shut or stuck, which ends
-/// the turns: whoever started the program must start it again. `CannotWrite` if the output failed,
-/// before the first turn or after the last one.
+/// for reports before that of the desk's. The book and the output are then unchanged. `CannotOpen`
+/// if a name of the book leads elsewhere than before it was opened: the book is then only read, and
+/// a line says so. `Store(Unavailable)` if the book was found shut or stuck, which ends the turns:
+/// whoever started the program must start it again. `CannotWrite` if the output failed, before the
+/// first turn or after the last one.
 pub fn run_serve<
     'r,
-    R: Net + Clock + ReplacesFiles,
+    R: Binds + Clock + ReplacesFiles,
     S: SiteSource + Drop,
     B: Book,
     W: Write,
@@ -90,7 +96,7 @@ pub fn run_serve<
     runtime: &'r R,
     alloc: Global,
     config: &Config,
-    around: Surroundings<S, E>,
+    around: Surroundings<'r, R, S, E>,
     database: &Text,
     book: &mut B,
     serving: &Serving,
@@ -102,12 +108,13 @@ pub fn run_serve<
     ensures done { IfOk result (λ status. status ≡ Status.Done) }
     ensures serves { RunsServer B.Book ⟦<Sockets<'r, R> as Exchange>⟧
         R.was_put (IsBoundTo serving.now.listening)
-        (S.file around.source) (S.polls around.source) (S.moments around.source) database.now
-        serving.now config.now
+        (S.file around.entry.source) (S.polls around.entry.source)
+        (S.moments around.entry.source) (seen_before around.entry.names) serving.now config.now
         (W.contents output.old) (W.contents output.new) result book.old book.new }
 {
     let Surroundings {
         reports,
+        names,
         source,
         errors: Errors { drops, notices, .. },
     } = around;
@@ -116,10 +123,19 @@ pub fn run_serve<
     let noted = Shared::new(&notices);
     let files = files_to_write(runtime, alloc, telling, &gauges, database, noted)?;
     let WrittenFiles { balances, counts } = files;
-    let names = BookNames::new(runtime, alloc, database)?;
-    let sockets = bound(runtime, alloc, &serving.listening, reports)?;
+    let sockets = match bound(runtime, alloc, &serving.listening, reports) {
+        Ok(sockets) => sockets,
+        Err(fault) => return Err(fault),
+    };
     let noted = Shared::new(&notices);
+    let Ok(names) = names else {
+        return Err(Fault::NoMemory);
+    };
     let begun = first_rounds(alloc, source, balances, names, config, book, &gauges, noted);
+    let begun = match begun {
+        Ok(begun) => begun,
+        Err(fault) => return Err(fault),
+    };
     let watcher = Watcher {
         clock: runtime,
         drops: watch_on(drops),
@@ -173,23 +189,25 @@ fn files_to_write<'s, R: Clock + ReplacesFiles, E: Write + Drop>(
 }
 
 // What a server does between its slices: it polls this source, looks at the names of its book, and
-// keeps its file of balances, which is written here for the first time.
+// keeps its file of balances, which is written here for the first time. A fault if one of the names
+// leads elsewhere by then.
 fn first_rounds<'r, R: ReplacesFiles, S: SiteSource + Drop, B: Book, E: Write + Drop>(
     alloc: Global,
     mut source: S,
     mut balances: Option<KeptBalances<'r, R>>,
-    names: BookNames<'r, R>,
+    mut names: BookNames<'r, R>,
     config: &Config,
     book: &mut B,
     gauges: &'r Gauges,
     mut errors: E,
-) -> FileRounds<'r, R, S, E>
+) -> Result<FileRounds<'r, R, S, E>, Fault>
     ensures looks { OnlyLooks B.Book book.old book.new }
-    ensures begins { (named : Option BalancesFile) (path : List ℕ) → IsKept named balances.entry
-        → IsNamed path (seen_of names.entry)
-        → Begins (λ name. PutsBalances (R.was_put name) (B.content book.old)
+    ensures begins { (named : Option BalancesFile) → IsKept named balances.entry
+        → IfOk result (λ begun. Begins (λ name. PutsBalances (R.was_put name) (B.content book.old)
         (B.is_open book.new)) named (S.file source) (S.polls source) (S.moments source)
-        path (state_of S.file S.polls S.moments result) }
+        (seen_of names.entry) (state_of S.file S.polls S.moments begun)) }
+    ensures moved { IfErr result (λ told.
+        (told ≡ Fault.CannotOpen) × HaveMoved (seen_of names.entry)) }
 {
     write_first(
         alloc,
@@ -200,7 +218,10 @@ fn first_rounds<'r, R: ReplacesFiles, S: SiteSource + Drop, B: Book, E: Write + 
         gauges,
         &mut errors,
     );
-    FileRounds::new(source, balances, Some(names), gauges, errors)
+    if names.have_moved(&mut errors) {
+        return Err(Fault::CannotOpen);
+    }
+    Ok(FileRounds::new(source, balances, Some(names), gauges, errors))
 }
 
 // Writes the file of balances for the first time, if there is one.
@@ -271,7 +292,7 @@ fn balances_file<'r, R: ReplacesFiles>(
 }
 
 /// Binds the sockets for reports at the requested addresses and port.
-pub fn bind_reports<R: Net>(
+pub fn bind_reports<R: Binds>(
     runtime: &R,
     alloc: Global,
     listening: &Listening,
@@ -289,7 +310,7 @@ pub fn bind_reports<R: Net>(
 }
 
 // The sockets for reports, with the desk's, which is bound at the requested address and port.
-fn bound<'r, R: Net + Clock>(
+fn bound<'r, R: Binds + Clock>(
     runtime: &'r R,
     alloc: Global,
     listening: &Listening,

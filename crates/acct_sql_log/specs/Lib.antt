@@ -1,4 +1,5 @@
 pub mod Answered
+pub mod Beside
 pub mod Chain
 pub mod Commits
 pub mod Damage

@@ -1,25 +1,14 @@
 //! The log of a book in a file.
+ghost use Rattle.std.specs.Prelude.{IfOk};
+ghost use Rattle.acct_sql_log.specs.Beside.{HasFound, IsOpenedLog};
+
 use crate::commits::has_later_commits;
 use crate::damage::Damage;
 use crate::log_reader::{Unread, damage_in};
 use crate::sizes::DATABASE_HEADER_OCTETS;
-use acct_reads::ReadsFiles;
+use acct_reads::{ReadsFiles, log_name};
 use std::alloc::Global;
 use std::io::ErrorKind;
-
-/// The name of the log of a book in a file. If the file's name is a link, the log is next to the
-/// file to which it leads. None if there is no memory for it.
-pub fn log_name<R: ReadsFiles>(runtime: &R, alloc: Global, file: &str) -> Option<String> {
-    match runtime.canonicalize(alloc, file) {
-        Ok(real) => log_of(alloc, real.as_str()),
-        Err(_) => log_of(alloc, file),
-    }
-}
-
-// The name of the log next to a file.
-fn log_of(alloc: Global, file: &str) -> Option<String> {
-    format!(in alloc; "{file}-wal").ok()
-}
 
 /// The damage of the log of a book in a file, if it has any. A log that isn't there has none. It
 /// writes nothing.
@@ -32,7 +21,10 @@ pub fn damage_beside<R: ReadsFiles>(
     runtime: &R,
     alloc: Global,
     file: &str,
-) -> Result<Option<Damage>, Unread> {
+) -> Result<Option<Damage>, Unread>
+    ensures { IfOk result
+        (HasFound R.leads_to R.was_opened R.Reader.remaining file.now) }
+{
     match opened_log(runtime, alloc, file)? {
         Some(mut log) => damage_in(alloc, &mut log),
         None => Ok(None),
@@ -61,8 +53,10 @@ fn opened_log<R: ReadsFiles>(
     runtime: &R,
     alloc: Global,
     file: &str,
-) -> Result<Option<R::Reader>, Unread> {
-    let name = log_name(runtime, alloc, file).ok_or(Unread::NoMemory)?;
+) -> Result<Option<R::Reader>, Unread>
+    ensures { IfOk result (IsOpenedLog R.leads_to R.was_opened file.now) }
+{
+    let name = log_name(runtime, alloc, file)?;
     match runtime.metadata(name.as_str()) {
         // The open of a pipe would wait.
         Ok(found) if found.is_file() => match runtime.open(name.as_str()) {

@@ -33,7 +33,7 @@ mod log_reader;
 mod scanner;
 mod sizes;
 
-pub use beside::{damage_beside, has_lost_book, log_name};
+pub use beside::{damage_beside, has_lost_book};
 pub use commits::{INIT_COMMITS, has_later_commits};
 pub use damage::Damage;
 pub use log_reader::{Unread, damage_in};

@@ -1,3 +1,4 @@
+use Rattle.acct_program_jobs.proofs.Ended.{however_it_ended}
 use Rattle.acct_program_jobs.proofs.database.adopted.Goals as goal
 
 pub returns-clause-adopted : goal.returns-clause-adopted
@@ -6,3 +7,6 @@ returns-clause-adopted g c = c.taken.ensures.adopted _ c.in_ok-connection.ensure
 
 pub returns-clause-refused : goal.returns-clause-refused
 returns-clause-refused g c = c.taken.ensures.refused _ c.in_ok-connection.ensures.found
+
+pub returns-clause-readable : goal.returns-clause-readable
+returns-clause-readable g c = however_it_ended _ c.in-Ok.ensures.readable c.taken.result

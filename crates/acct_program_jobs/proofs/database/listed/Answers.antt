@@ -1,3 +1,4 @@
+use Rattle.acct_program_jobs.proofs.Ended.{however_it_ended}
 use Rattle.acct_program_jobs.proofs.database.listed.Goals as goal
 
 pub returns-clause-kept : goal.returns-clause-kept
@@ -6,3 +7,6 @@ returns-clause-kept g c = c.kept_in.ensures.kept _ c.in_ok-connection.ensures.fo
 
 pub returns-clause-refused : goal.returns-clause-refused
 returns-clause-refused g c = c.kept_in.ensures.refused _ c.in_ok-connection.ensures.found
+
+pub returns-clause-readable : goal.returns-clause-readable
+returns-clause-readable g c = however_it_ended _ c.in-Ok.ensures.readable c.kept_in.result
