@@ -155,7 +155,7 @@ fn tells_loss(rt: &HostRuntime) -> Result<bool, Fail> {
 
 // What came of a server: how it ended, and what it printed on its output and among its notices.
 #[derive(Drop)]
-struct Came {
+struct Outcome {
     ended: Result<Status, Fault>,
     output: Vec<u8>,
     notices: Vec<u8>,
@@ -176,7 +176,7 @@ fn names<'a>(
 
 // What came of a server whose book is moved once it serves, or between the first look at its names
 // and its start.
-fn came(runtime: &Staged, client: &UdpSocket, is_moved: bool) -> Result<Came, Fail> {
+fn came(runtime: &Staged, client: &UdpSocket, is_moved: bool) -> Result<Outcome, Fail> {
     let alloc = runtime.host.alloc();
     let (config, serving) = (site_of(alloc, SITE)?, serving(&runtime.host)?);
     let database = Text::from_str(alloc, BOOK)?;
@@ -211,7 +211,7 @@ fn came(runtime: &Staged, client: &UdpSocket, is_moved: bool) -> Result<Came, Fa
         &serving,
         &mut output,
     );
-    Ok(Came {
+    Ok(Outcome {
         ended,
         output: Vec::from_slice(alloc, output.text.as_slice())?,
         notices: notices.into_inner(),
