@@ -585,6 +585,7 @@ class OddDesk(http.server.BaseHTTPRequestHandler):
     def do_GET(self):
         status, body = self.says
         self.send_response(status)
+        self.send_header("Content-Type", "application/json")
         self.send_header("Content-Length", str(len(body)))
         self.send_header("Location", self.path)
         self.end_headers()
@@ -594,10 +595,12 @@ class OddDesk(http.server.BaseHTTPRequestHandler):
         pass
 
 
+RIGHT = '{"counted":"total","octets":5,"open":0,"stamp":"free;;al;x","stations":0}'
+
+
 class Odd(unittest.TestCase):
     """A 200 that is understood is a yes, 402 and 422 are a no, all else is silence."""
 
-    RIGHT = '{"counted":"total","octets":5,"open":0,"stamp":"free;;al;x","stations":0}'
     ROWS = (
         (200, RIGHT, "free;;al"), (402, RIGHT, "no"), (422, RIGHT, "no"),
         *((status, RIGHT, None) for status in (201, 204, 302, 400, 401, 404, 429, 500, 503)),
@@ -657,7 +660,8 @@ class Disk(unittest.TestCase):
                 file.write(bytes(512))
         self.assertEqual((it.login("first").code, it.login().code), (3, 2))
         os.remove(path)
-        self.assertEqual(int.from_bytes(radius.first(it.login("first"), 27), "big"), 300)
+        reply = lab.waited(lambda: (said := it.login("first")).code == 2 and said, 10)
+        self.assertIn(int.from_bytes(radius.first(reply, 27), "big"), range(290, 301))
 
     def test_nobody_waits_for_a_slow_disk(self):
         """But for a first login: 32 threads could otherwise wait, and no other is answered."""

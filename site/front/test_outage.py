@@ -5,7 +5,8 @@ Sessions   100 sessions at once of devices like MikroTik, Cisco and CoovaChilli 
            nothing of what they reported, at most 1 %.
 GivesUp    300 devices report in the 60 s in which it is dead, and give up: all are charged 30 s
            after it is back. On disks whose sync takes 20, 200 and 1,000 ms all of 100 are charged.
-SlowDisk   On these disks 80 % of what radacctd alone answers in a second goes through FreeRADIUS.
+SlowDisk   On these disks 80 % of the reports a second that radacctd alone takes into its book, from
+           devices that give up, go through FreeRADIUS.
 
 Some minutes each. Over the program (RADACCTD=path) or its stand-in, which does not sync. For root,
 with freeradius, freeradius-rest, freeradius-utils, strace, hostapd, wpasupplicant and iproute2."""
@@ -66,10 +67,11 @@ class Loop:
 class Sending:
     """A report of a device on its way, until it is answered or given up."""
 
-    def __init__(self, loop, port, source, kind, pairs, answered=None):
+    def __init__(self, loop, port, source, kind, pairs, answered=None, secret=radius.SECRET):
         self.loop, self.pairs, self.begun, self.answered = loop, pairs, time.time(), answered
         waits, self.is_new = KINDS[kind]
-        self.waits, self.number, self.packet = iter(waits), 0, radius.report_packet(pairs, 0)
+        self.waits, self.number = iter(waits), 0
+        self.packet = radius.report_packet(pairs, 0, secret)
         self.socket = radius.opened(source, port)
         loop.add(self.socket, self.heard)
         self.send()
@@ -269,60 +271,36 @@ class GivesUp(unittest.TestCase):
                       f"all charged after {took} s, {it.waiting('aside')} set aside", flush=True)
 
 
-class Busy:
-    """A device that reports all the time: each again after a second, until it is answered."""
-
-    def __init__(self, loop, port, secret, number):
-        self.loop, self.secret, self.number, self.count = loop, secret, number, 0
-        self.socket = radius.opened("127.0.0.1", port)
-        loop.add(self.socket, self.heard)
-        self.next()
-
-    def next(self):
-        self.count += 1
-        pairs = [(STATUS, INTERIM), (ID, f"busy-{self.number}"), (USER, "x"), (42, self.count)]
-        pairs.append((NAS_NAME, f"ap-{self.number}"))
-        self.packet = radius.report_packet(pairs, self.count % 256, self.secret)
-        self.send(self.count)
-
-    def send(self, count):
-        if count == self.count and self.socket.fileno() >= 0:
-            self.socket.send(self.packet)
-            self.loop.after(1, lambda: self.send(count))
-
-    def heard(self):
-        if self.socket.recv(4096)[1] == self.count % 256:
-            self.next()
-
-
 @unittest.skipUnless(lab.PROGRAM, "the stand-in does not sync")
 class SlowDisk(unittest.TestCase):
-    """Of what radacctd alone answers on a slow disk, at least 80 % goes through FreeRADIUS."""
+    """Of the reports a second that radacctd alone takes into its book, at least 80 % go through
+    FreeRADIUS: of devices that give up after a second, and report in five."""
 
-    LEAST, AT_ONCE = 0.8, 64
+    LEAST, COUNTS = 0.8, (200, 60, 30)
 
-    def rate(self, port, secret, seconds):
-        """How many reports are answered in a second."""
-        loop = Loop()
-        devices = [Busy(loop, port, secret, number) for number in range(self.AT_ONCE)]
-        loop.run(1)
-        before = sum(it.count for it in devices)
-        loop.run(seconds)
-        done = sum(it.count for it in devices) - before
-        for it in devices:
-            loop.remove(it.socket)
-        return done / seconds
+    def rate(self, port, secret, sync, count):
+        """How many reports a second are in the book, once all are."""
+        with lab.Lab() as it:
+            it.slow_down(sync)
+            loop, begun = Loop(), time.time()
+            for n in range(count):
+                pairs = [(STATUS, STOP), (ID, f"s{n}"), (USER, "x"), (42, 1000 + n)]
+                pairs.append((NAS_NAME, f"ap-{n % 5}"))
+                words = getattr(it, port), "127.0.0.1", "mikrotik", pairs, None, secret
+                loop.after(random.uniform(0, 5), lambda words=words: Sending(loop, *words))
+            loop.run(6)
+            while len(it.sessions()) < count:
+                self.assertLess(time.time() - begun, 600)
+                loop.run(1)
+            return count / (time.time() - begun)
 
     def test_what_goes_through(self):
-        for sync, seconds in zip(SYNCS, (5, 10, 30)):
-            with self.subTest(sync=sync), lab.Lab() as it:
-                it.slow_down(sync)
-                ways = ((it.book_port, b"book-secret-1"), (it.reports, radius.SECRET))
-                rounds = [[self.rate(*way, seconds) for way in ways] for _ in range(2)]
-                alone, through = (sum(rates) / len(rates) for rates in zip(*rounds))
-                print(f"a sync takes {sync} ms: radacctd alone answers {alone:.0f} reports a "
-                      f"second, through FreeRADIUS {through:.0f}: {through / alone:.0%}",
-                      flush=True)
+        ways = (("book_port", b"book-secret-1"), ("reports", radius.SECRET))
+        for sync, count in zip(SYNCS, self.COUNTS):
+            with self.subTest(sync=sync):
+                alone, through = (self.rate(*way, sync, count) for way in ways)
+                print(f"a sync takes {sync} ms: radacctd alone takes {alone:.2f} reports a second, "
+                      f"through FreeRADIUS {through:.2f}: {through / alone:.0%}", flush=True)
                 self.assertGreaterEqual(through, alone * self.LEAST)
 
 
