@@ -2,11 +2,12 @@
 folders they are. And the blocks of its configuration.
 """
 
+import csv
 import json
 import os
 import re
 
-from radacctd_site.core import accounts, machine, places
+from radacctd_site.core import Failed, accounts, machine, places, told
 
 
 def block(name, members):
@@ -28,7 +29,8 @@ def in_force():
 
 def names():
     """The accounts of the balances."""
-    return {line.split(",")[0] for line in written(accounts.BALANCES).splitlines()[1:]}
+    with told(Failed, f"{accounts.BALANCES}: ", csv.Error):
+        return {row[0] for row in csv.reader(written(accounts.BALANCES).splitlines()[1:]) if row}
 
 
 def samples():

@@ -7,7 +7,7 @@ import re
 import time
 from ssl import cert_time_to_seconds as seconds_of
 
-from radacctd_site.core import accounts, files, machine, moment, names, places
+from radacctd_site.core import accounts, book, files, machine, moment, names, places
 from radacctd_site.core.steps import Fault
 
 # How long a certificate is to last, a report may wait, and an access server be silent, in seconds.
@@ -79,10 +79,10 @@ def silent(servers):
     names and addresses its reports are known. Accounts are looked at until all were heard of.
     """
     missing, heard = dict(servers), {}
-    book = missing and places.book()
-    for account in sorted(accounts.known()[0])[:MOST]:
+    desk = missing and places.book()
+    for account in map(names.octets_of, sorted(book.names())[:MOST]):
         # Nobody is missing any more, or the desk does not tell.
-        if not missing or (found := accounts.told(book, account, accounts.SESSIONS)) is None:
+        if not missing or (found := accounts.told(desk, account, accounts.SESSIONS)) is None:
             return
         for it in found:
             # Behind FreeRADIUS it is front/nNAS-IDENTIFIER, or front/aADDRESS.

@@ -620,11 +620,13 @@ class Check(Folder):
         self.patch(places, book=lambda: None)
         for found, count, since in rows:
             told = mock.Mock(side_effect=[[], found, *[[]] * 3])
-            self.patch(accounts, known=lambda: (dict.fromkeys([b"a", b"b", b"c"]), None), told=told)
+            self.patch(accounts, told=told)
+            self.patch(book, written=lambda _: 'account,balance\na,0\n"b,",0\nc,0\n')
             said = list(looks.silent(it for it in [("lobby", [b"lobby", b"\n\0\0\1"])]))
             self.assertEqual((len(said), told.call_count), (count, 2 + count), found)
+            self.assertEqual(told.call_args_list[1][0][1], b"b,")
             self.assertTrue(not said or f"lobby has reported nothing{since}" in said[0].text)
-        self.patch(accounts, known=lambda: ({}, None))
+        self.patch(book, written=lambda _: "")
         self.assertEqual([len([*looks.silent(it)]) for it in ([], [("lobby", [b"lobby"])])], [0, 1])
 
     def test_no_cure_starts_a_server_whose_book_is_away(self):
