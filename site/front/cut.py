@@ -73,11 +73,13 @@ def ask(server, requests):
         print(server["secret"], file=secret, flush=True)
         words = ["radclient", "-qs", "-S", f"/proc/self/fd/{secret.fileno()}", "-p", "20",
                  "-r", "2", "-t", "2", server["address"], "disconnect"]
+        is_lost = True
         with contextlib.suppress(subprocess.TimeoutExpired):
             done = subprocess.run(words, input="\n".join(requests).encode(), stdout=subprocess.PIPE,
                                   pass_fds=[secret.fileno()], timeout=LONGEST, check=False)
-            if re.search(rb"Lost\s+: [1-9]", done.stdout):
-                print(f"{server['address']} answers no Disconnect-Request", flush=True)
+            is_lost = re.search(rb"Lost\s+: [1-9]", done.stdout)
+        if is_lost:
+            print(f"{server['address']} answers no Disconnect-Request", flush=True)
 
 
 def cut(settings, clients, now):
