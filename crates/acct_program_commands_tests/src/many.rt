@@ -115,7 +115,7 @@ fn rests(rt: &HostRuntime) -> Result<[Option<u64>; 4], Fail> {
     let mut book = MemBook::new(rt.alloc());
     fill(rt.alloc(), &mut book, 20_000, 1)?;
     let short = last_written(rt, &mut book, 3005)?;
-    let topup = TopUp::new(rt.alloc(), "V-more", b"one more", 1, 1000)?;
+    let topup = TopUp::new(rt.alloc(), "V-MORE", b"one more", 1, 1000)?;
     book.put_topup(&topup, 7)?;
     let long = last_written(rt, &mut book, 3005)?;
     let still = last_written(rt, &mut book, 6599)?;
