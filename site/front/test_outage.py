@@ -276,7 +276,7 @@ class SlowDisk(unittest.TestCase):
     """Of the reports a second that radacctd alone takes into its book, at least 80 % go through
     FreeRADIUS: of devices that give up after a second, and report in five."""
 
-    LEAST, COUNTS = 0.8, (200, 60, 30)
+    LEAST, COUNTS = 0.8, (60, 60, 30)
 
     def rate(self, port, secret, sync, count):
         """How many reports a second are in the book, once all are."""
