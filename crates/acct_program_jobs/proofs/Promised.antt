@@ -195,12 +195,14 @@ pub files_right : {D : Type 0} {g : disk.Ghosts D} {X : Type 0} (image : Image)
 files_right {D} {g} image b x IsBound right over text printed after file name serving ended rest
     (inl keeps) = (
       None,
+      tt,
       subst (EndsRightly image b x IsBound printed after file None serving ended)
           (sym keeps.nothing) (keeps.told, keeps.ended_is),
     )
 files_right {D} {g} image b x IsBound right over text printed after file name serving ended rest
     (inr (seen, named, (inl (status, files, is, rest_is, (config, read, closes))))) = (
       seen,
+      named,
       subst (EndsRightly image b x IsBound printed after file seen serving ended) (sym rest_is) (
         config,
         read,
@@ -213,12 +215,14 @@ files_right {D} {g} image b x IsBound right over text printed after file name se
 files_right {D} {g} image b x IsBound right over text printed after file name serving ended rest
     (inr (seen, named, (inr (told, is, (inl none))))) = (
       seen,
+      named,
       subst (EndsRightly image b x IsBound printed after file seen serving ended) (sym none.nothing)
           (told, is),
     )
 files_right {D} {g} image b x IsBound right over text printed after file name serving ended rest
     (inr (seen, named, (inr (told, is, (inr (config, read, fails)))))) = (
       seen,
+      named,
       failed_at image b x IsBound right over printed after file seen serving config read told rest
           ended is fails.at,
     )

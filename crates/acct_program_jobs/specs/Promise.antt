@@ -1,6 +1,6 @@
 -- The promise over one run of `serve` on the files of a book: however it ended, every balance is
 -- right, in the book that it left and in the files.
-use Rattle.std.specs.Prelude.{◌≡◌, ◌⊎◌, ◌<◌, ℕ, List, Option, None, Some, Result, Ok, Err}
+use Rattle.std.specs.Prelude.{◌≡◌, ◌⊎◌, ◌<◌, ℕ, List, Option, None, Some, IfSome, Result, Ok, Err}
 use Rattle.sqlite_disk.specs.declared.Disk as disk
 use Rattle.sqlite_disk.specs.declared.Files.{Files}
 use Rattle.sqlite_wal.specs.Files.{outcomes}
@@ -28,6 +28,7 @@ use Rattle.acct_program_commands.specs.Checks.{ReadsConfig}
 use Rattle.acct_program_commands.specs.Names.{NamesSeen}
 use Rattle.acct_program_commands.specs.Puts.{WasPut}
 use Rattle.acct_program_commands.specs.declared.fault.Fault.{Fault}
+use Rattle.acct_program_serving.specs.Files.{IsNamed}
 use Rattle.acct_program_serving.specs.Promise.{visits_of}
 use Rattle.acct_program_serving.specs.Serving.{RunsServer}
 use Rattle.acct_program_jobs.specs.declared.left.Left.{Left}
@@ -112,12 +113,13 @@ module _ {D : Type 0} {g : disk.Ghosts D} {X : Type 0} (image : Image)
       (config : Config) × ReadsConfig file (Ok config) × (status : Status) × (ended ≡ Ok status)
       × ClosedRightly config status files
 
--- So it is of each run of the command. A server has one kind of book: that of a script is not used.
+-- So it is of each run of the command over the book of this name. A server has one kind of book:
+-- that of a script is not used.
 abbrev pub FilesAreRight : {D : Type 0} {g : disk.Ghosts D} {X : Type 0} → Image
     → book.Ghosts (Held (FileStore D g)) → exchange.Ghosts X
     → (Listening → X → Type 0) → Type 0
 FilesAreRight {D} {g} image b x IsBound = (text printed after : Option (List ℕ))
     (file name : List ℕ) (serving : Serving) (ended : Result Status Fault) (rest : Left D g)
     → DoesBookJob image b x IsBound b text printed after file name (of_book.Serve serving) ended
-    rest → (seen : Option NamesSeen)
+    rest → (seen : Option NamesSeen) × IfSome seen (IsNamed name)
     × EndsRightly image b x IsBound printed after file seen serving ended rest
