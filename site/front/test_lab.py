@@ -56,6 +56,7 @@ unit = 1000
 [[key]]
 token = "cash-key-00000001"
 cashier = true
+accounts = true
 [[key]]
 token = "desk-key-logins-0001"
 logins = true

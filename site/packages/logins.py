@@ -64,8 +64,13 @@ def whose(db, text):
 def make(db, book, made):
     """Makes logins, and sells each by one credit. One that is there already stays as it is."""
     taken = users.names()[0]
-    if any(it.name == it.account for it in made):
-        taken |= {names.shown(it) for it in accounts.balances()[0]}
+    for it in (it.name for it in made if it.name == it.account):
+        # The book says whose a name is: its file of balances may be an hour old.
+        asked = accounts.SESSIONS, accounts.TOPUPS
+        found = [accounts.told(book, it.encode(), question) for question in asked]
+        if None in found:
+            raise Failed("the book does not say whose this name is: try again in a minute")
+        taken |= {it} if any(found) else set()
     with db:
         db.execute("BEGIN IMMEDIATE")
         for it in made:
@@ -90,7 +95,7 @@ def is_new(db, it, taken):
     if db.execute("SELECT 1 FROM login WHERE number = ?", (it.number,)).fetchone():
         return False
     had = db.execute("SELECT 1 FROM login WHERE account = ?1 OR name = ?1", (it.account,))
-    if had.fetchone() or {it.name, names.shown(it.account.encode())} & taken:
+    if had.fetchone() or it.name in taken:
         raise Failed(f"{it.account} is there already, or was: nothing was sold. Give another name")
     return True
 

@@ -5,6 +5,7 @@ import hashlib
 import io
 import sqlite3
 import time
+import urllib.parse
 from unittest import mock
 
 from radacctd_site.core import (
@@ -45,8 +46,19 @@ class Packages(Site):
         self.enterContext(mock.patch.object(logins, "key", lambda: KEY))
         self.list_plans({"gold": corrections.WANTED, "free": corrections.WANTED})
         self.write_balances()
+        # What the book has of an account is asked of it: credits, and sessions of others.
+        self.sessions = set()
+        self.book.look = self.asked
         self.put("week", "--plan", "gold", "--sum", "9.00", "--devices", "2", "--valid", "7d")
         self.put("open", "--plan", "free", "--speed", "2M/1M")
+
+    def asked(self, path):
+        account, _, question = path.removeprefix("/accounts/").partition("/")
+        if self.book.is_away:
+            return 0, None
+        has = {"topups": account in {it for it, _ in self.book.credits.values()},
+               "sessions": urllib.parse.unquote(account) in self.sessions}
+        return 200, {question: [{}] if has[question] else []}
 
     def put(self, *words):
         self.run_it("package", "put", *words)
@@ -161,13 +173,13 @@ class Selling(Packages):
         self.assertRaisesRegex(Failed, "was", self.make, name="müller")
         logins.end(self.db, ["müller"])
         self.assertRaisesRegex(Failed, "was", self.make, name="müller")
-        path = f"{self.folder}/balances.csv"
-        with open(path, "w", encoding="utf-8") as file:
-            file.write("account,balance,overrun\nro%C3%B3m 1,500,0\n")
-        with mock.patch.object(accounts, "BALANCES", path):
-            self.assertRaisesRegex(Failed, "was", self.make, name="roóm 1")
-        with mock.patch.object(accounts, "BALANCES", f"{self.folder}/none.csv"):
-            self.assertRaisesRegex(Failed, "none.csv", self.make, name="bo")
+        self.sessions.add("roóm 1")
+        self.assertRaisesRegex(Failed, "was", self.make, name="roóm 1")
+        self.book.credits["V-1"] = "al", 5
+        self.assertRaisesRegex(Failed, "was", self.make, name="al")
+        del self.book.credits["V-1"]
+        self.book.is_away = True
+        self.assertRaisesRegex(Failed, "whose", self.make, name="bo")
         self.assertEqual(len(self.book.credits), 1)
 
     def test_a_code_is_a_key_to_what_is_left_on_it_until_it_ends(self):
