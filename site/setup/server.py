@@ -147,7 +147,7 @@ def counts():
     moment = found.get("radacctd_balances_time_seconds", 0)
     # Of more accounts it is written once an hour.
     every = max(int(corrections.settings().get("RADACCTD_BALANCES_EVERY") or 10),
-                3600 * (found.get("radacctd_accounts", 0) > 20_000))
+                3600 * (found.get("radacctd_accounts", 0) > 10_000))
     if time.time() - moment > max(120, 5 * every):
         since = time.strftime("%F %T", time.localtime(moment)) if moment else "its start"
         yield Fault("balances-old", f"{accounts.BALANCES} was not written since {since}",

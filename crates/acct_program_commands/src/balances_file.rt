@@ -24,7 +24,7 @@ use std::alloc::{AllocError, Global};
 use std::io::Write;
 
 /// A file of more accounts took long to write: no report is answered meanwhile.
-const MOST_ACCOUNTS: u64 = 20_000;
+const MOST_ACCOUNTS: u64 = 10_000;
 /// The file shows who owes what: its owner may write it, its group may read it, nobody else may.
 const MODE: u32 = 0o640;
 
@@ -51,7 +51,7 @@ impl<'r, R: ReplacesFiles> KeptBalances<'r, R> {
 
     /// Writes all balances if that is due at a moment, in seconds since 1970. Notes in `gauges`
     /// what was written, or prints on `errors` why the write failed. After a file of more than
-    /// 20,000 accounts the next one is due after an hour at the earliest.
+    /// 10,000 accounts the next one is due after an hour at the earliest.
     pub fn keep<B: Book, E: Write>(
         &mut self,
         alloc: Global,

@@ -110,10 +110,10 @@ fn last_written(rt: &HostRuntime, book: &mut MemBook, moment: u64) -> Result<Opt
     Ok(gauges.balances().map(|written| written.at))
 }
 
-// When that of 20,000 accounts was, and that of one account more, at several moments.
+// When that of 10,000 accounts was, and that of one account more, at several moments.
 fn rests(rt: &HostRuntime) -> Result<[Option<u64>; 4], Fail> {
     let mut book = MemBook::new(rt.alloc());
-    fill(rt.alloc(), &mut book, 20_000, 1)?;
+    fill(rt.alloc(), &mut book, 10_000, 1)?;
     let short = last_written(rt, &mut book, 3005)?;
     let topup = TopUp::new(rt.alloc(), "V-MORE", b"one more", 1, 1000)?;
     book.put_topup(&topup, 7)?;
