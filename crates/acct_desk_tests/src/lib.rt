@@ -1,31 +1,10 @@
-//! Tests of `acct_desk`, only of its public calls.
+//! Tests of `acct_desk`, of what no contract says and the built program can't show: calls of a book,
+//! allocations and readers that fail. What the desk answers is shown by `.ci/rows_lib/desk.py`.
 #![tactic(auto)]
 
 #[cfg(test)]
-mod accounts;
-#[cfg(test)]
-mod front_desk;
-#[cfg(test)]
-mod keys;
-#[cfg(test)]
-mod limits;
-#[cfg(test)]
-mod logins;
-#[cfg(test)]
-mod many;
-#[cfg(test)]
-mod overdrawn;
-#[cfg(test)]
-mod pages;
+mod desk;
 #[cfg(test)]
 mod reading;
 #[cfg(test)]
 mod refusals;
-#[cfg(test)]
-mod requests;
-#[cfg(test)]
-mod sample_desk;
-#[cfg(test)]
-mod signed_keys;
-#[cfg(test)]
-mod texts;

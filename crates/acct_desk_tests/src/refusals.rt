@@ -1,157 +1,153 @@
-//! A desk whose book fails, or whose memory runs out.
-use crate::sample_desk::Desk;
-use crate::texts::{
-    ADDED, BAD_TOP_UP, BALANCE, CURL_TOP_UP, DIFFERS, MY_SESSIONS, MY_TOP_UPS, MY_VOUCHERS,
-    ONE_SESSION, OTHER_SUM, REPEATED, Turn, UNAVAILABLE, WHO_IS_OVER,
-};
-use acct_book::{Book, MemBook};
-use acct_book_fakes::FailingBook;
-use acct_model::TopUp;
+//! A desk whose book refuses a call, or whose memory runs out: it says so, and changes nothing.
+use crate::desk::Desk;
 use std::alloc::Global;
 use std::test::Fail;
 
-const LIMIT: &[u8] = b"HTTP/1.1 422 Unprocessable Entity\r\nContent-Type: application/json\r\n\
-    Content-Length: 25\r\nConnection: close\r\n\r\n\
-    {\"error\":\"balance limit\"}";
+// A method and a path, a key, a body, the status and the body of the answer, and how many calls of
+// the book the answer takes.
+type Row = (
+    &'static str,
+    &'static str,
+    &'static str,
+    &'static str,
+    &'static str,
+    u64,
+);
 
-const LEFT: &[u8] = b"HTTP/1.1 200 OK\r\nContent-Type: application/json\r\nContent-Length: 42\r\n\
-    Connection: close\r\n\r\n{\"account\":\"al\",\"balance\":480,\"overrun\":0}";
+const AL: &str = "al-key-0000000001";
 
-const NONE_OVER: &[u8] =
-    b"HTTP/1.1 200 OK\r\nContent-Type: application/json\r\nContent-Length: 15\r\n\
-    Connection: close\r\n\r\n{\"overruns\":[]}";
+const CASHIER: &str = "cash-key-00000001";
 
-const SECOND_TOP_UP: &[u8] =
-    b"POST /topups HTTP/1.1\r\nDesk-Key: cash-key-00000001\r\nContent-Length: 41\r\n\r\n\
-    {\"account\":\"al\",\"sum\":70,\"voucher\":\"W-2\"}";
+const CLERK: &str = "desk-key-0000001";
 
-// Requests, their responses at a desk that has recorded a session and a voucher of `al`, and how
-// many calls of the book each takes.
-static ASKED: [(&[u8], &[u8], u64); 7] = [
-    (BALANCE, LEFT, 1),
-    (MY_SESSIONS, ONE_SESSION, 1),
-    (MY_VOUCHERS, MY_TOP_UPS, 1),
-    (WHO_IS_OVER, NONE_OVER, 2),
-    (CURL_TOP_UP, REPEATED, 1),
-    (OTHER_SUM, DIFFERS, 1),
-    (SECOND_TOP_UP, ADDED, 3),
+const FRONT: &str = "front-key-000001";
+
+const PAYMENT: &str = "402 Payment Required";
+
+const NEW: &str = "{\"result\":\"new\"}";
+
+// A signed key of `al` until 1000. Python's hmac made it, and the stamp below.
+const SIGNED: &str = "616c.1000.97aa7f538d4c5306f8b96296bd885931";
+
+const TOP_UPS: &str =
+    "{\"account\":\"al\",\"topups\":[{\"sum\":500,\"voucher\":\"V-1\",\"when\":1001}]}";
+
+const SESSIONS: &str =
+    "{\"account\":\"al\",\"sessions\":[{\"calling\":\"\",\"cause\":0,\"charged\":\"20\",\
+    \"class\":\"gold\",\"client\":\"ap1\",\"first\":2000,\"framed\":\"\",\"input\":1048577,\
+    \"last\":2000,\"output\":0,\"seconds\":0,\"session\":\"s2\",\"state\":\"open\",\
+    \"total\":1048577}]}";
+
+const OPEN: &str = "{\"next\":null,\"sessions\":[{\"account\":\"bo\",\"calling\":\"\",\
+    \"client\":\"ap1\",\"device\":\"\",\"framed\":\"\",\"id\":\"s3\",\"last\":2000,\
+    \"session\":\"s3\"}]}";
+
+const LOGIN: &str = "{\"counted\":\"total\",\"octets\":50331648,\"open\":1,\
+    \"stamp\":\"gold;;al;db47ea75eac6fcef742fd96793124884\",\"stations\":null}";
+
+const LEFT: &str = "{\"account\":\"al\",\"balance\":480,\"overrun\":0}";
+
+const OVER: &str = "{\"overruns\":[{\"account\":\"bo\",\"overrun\":20}]}";
+
+const NO_MONEY: &str = "{\"error\":\"no balance\"}";
+
+const SOLD: &str = "{\"account\":\"al\",\"sum\":500,\"voucher\":\"V-1\"}";
+
+const OTHER: &str = "{\"account\":\"al\",\"sum\":501,\"voucher\":\"V-1\"}";
+
+const SALE: &str = "{\"account\":\"al\",\"sum\":70,\"voucher\":\"W-2\"}";
+
+const DIFFERS: &str = "{\"error\":\"voucher differs\"}";
+
+const NO_PATH: &str = "{\"error\":\"no such path\"}";
+
+const REPEAT: &str = "{\"result\":\"repeat\"}";
+
+// Of the open sessions two accounts are read, the rows of one, and that there is no third. Where the
+// balance is too low for a block, the sessions are not read.
+static ROWS: [Row; 12] = [
+    ("GET /me/balance", AL, "", "200 OK", LEFT, 1),
+    ("GET /me/sessions", AL, "", "200 OK", SESSIONS, 1),
+    ("GET /me/topups", SIGNED, "", "200 OK", TOP_UPS, 1),
+    ("GET /accounts/al/topups", CLERK, "", "200 OK", TOP_UPS, 1),
+    ("GET /overruns", CASHIER, "", "200 OK", OVER, 3),
+    ("GET /overruns/sessions", FRONT, "", "200 OK", OPEN, 4),
+    ("GET /logins/al/gold", FRONT, "", "200 OK", LOGIN, 2),
+    ("GET /logins/bo/gold", FRONT, "", PAYMENT, NO_MONEY, 1),
+    ("POST /topups", CASHIER, SOLD, "200 OK", REPEAT, 1),
+    ("POST /topups", CASHIER, OTHER, "409 Conflict", DIFFERS, 1),
+    ("POST /topups", CASHIER, SALE, "201 Created", NEW, 3),
+    ("GET /me", AL, "", "404 Not Found", NO_PATH, 0),
 ];
 
-// Records a session of 20 and a voucher of 500, both of `al`.
-fn fill<B: Book + Drop>(alloc: Global, desk: &mut Desk<B>) -> Result<(), Fail> {
-    desk.record_gold(alloc, b"al")?;
-    if desk.answers(alloc, CURL_TOP_UP, ADDED)? {
-        Ok(())
-    } else {
-        Err(Fail::from("the voucher was not added"))
-    }
+const UNAVAILABLE: &[u8] = b"HTTP/1.1 503 Service Unavailable\r\nContent-Type: application/json\r\n\
+    Content-Length: 23\r\nConnection: close\r\n\r\n\
+    {\"error\":\"unavailable\"}";
+
+// The octets of a row's request and of its answer.
+fn octets_of(alloc: Global, row: &Row) -> Result<(String, String), Fail> {
+    let (line, key, body, status, told, _) = *row;
+    let (size, told_size) = (body.len(), told.len());
+    let request = format!(in alloc;
+        "{line} HTTP/1.1\r\nDesk-Key: {key}\r\nContent-Length: {size}\r\n\r\n{body}"
+    )?;
+    let answer = format!(in alloc;
+        "HTTP/1.1 {status}\r\nContent-Type: application/json\r\nContent-Length: {told_size}\r\n\
+        Connection: close\r\n\r\n{told}"
+    )?;
+    Ok((request, answer))
 }
 
-// What a book has of `al`: the balance, how many sessions and how many vouchers.
-fn seen<B: Book>(book: &mut B) -> Result<(i64, usize, usize), Fail> {
-    let sessions = book.sessions_of(b"al")?.len();
-    let vouchers = book.topups_of(b"al")?.len();
-    Ok((book.balance(b"al")?, sessions, vouchers))
-}
-
-// Whether a request gets the expected answer over a book that fails this call. Else the answer must
-// be that the book is unavailable, and the book must be as it was.
-fn is_past(
-    alloc: Global,
-    desk: &mut Desk<FailingBook<MemBook>>,
-    request: &[u8],
-    want: &[u8],
-    call: u64,
-) -> Result<bool, Fail> {
-    let before = seen(&mut desk.book.book)?;
-    desk.book.calls_left = call;
-    let answer = desk.answer(alloc, request)?;
-    if answer.as_slice() == want {
-        return Ok(true);
+// Whether a request is answered at once. Some(false) is told if the answer is that the book is
+// unavailable, or there is no memory for one, and the same request is answered when it comes again.
+fn is_answered(alloc: Global, desk: &mut Desk, row: &Row) -> Result<Option<bool>, Fail> {
+    let (request, answer) = octets_of(alloc, row)?;
+    let is_refused = match desk.answer(alloc, request.as_bytes()) {
+        Ok(octets) if octets.as_slice() == answer.as_bytes() => return Ok(Some(true)),
+        Ok(octets) => octets.as_slice() == UNAVAILABLE,
+        Err(_) => true,
+    };
+    let again = desk.answer(alloc, request.as_bytes())?;
+    if is_refused && again.as_slice() == answer.as_bytes() {
+        return Ok(Some(false));
     }
-    if answer.as_slice() == UNAVAILABLE && seen(&mut desk.book.book)? == before {
-        return Ok(false);
-    }
-    Err(Fail::from("a refused call was answered otherwise"))
-}
-
-// A filled desk over a book that may fail a call.
-fn failing(alloc: Global) -> Result<Desk<FailingBook<MemBook>>, Fail> {
-    let mut desk = Desk::over(alloc, FailingBook::new(MemBook::new(alloc), 0))?;
-    fill(alloc, &mut desk)?;
-    Ok(desk)
+    Ok(None)
 }
 
 // How many calls a request takes: each fails in its turn, up to the first that is not made.
-fn calls(alloc: Global, request: &[u8], want: &[u8]) -> Result<u64, Fail> {
+fn count_calls(alloc: Global, row: &Row) -> Result<Option<u64>, Fail> {
     for call in 1..9 {
-        if is_past(alloc, &mut failing(alloc)?, request, want, call)? {
-            return Ok(call - 1);
+        let mut desk = Desk::new(alloc)?;
+        desk.book.calls_left = call;
+        match is_answered(alloc, &mut desk, row)? {
+            Some(true) => return Ok(Some(call - 1)),
+            Some(false) => {}
+            None => return Ok(None),
         }
     }
-    Err(Fail::from("never answered"))
+    Ok(None)
 }
 
 #[test]
-fn a_refused_call_is_told(rt: HostRuntime) -> Result<(), Fail> {
-    for (request, want, count) in &ASKED {
-        assert!(rt; calls(rt.alloc(), request, want)? == *count);
+fn refused_calls_are_told(rt: HostRuntime) -> Result<(), Fail> {
+    for row in &ROWS {
+        assert!(rt; count_calls(rt.alloc(), row)? == Some(row.5));
     }
     Ok(())
 }
 
-// Top-ups at a desk where the voucher V-0 of 1 has left `al` 5 below the greatest balance, 2^62.
-static AT_THE_LIMIT: [Turn; 5] = [
-    (b"{\"account\":\"al\",\"sum\":6,\"voucher\":\"V-1\"}", LIMIT),
-    (
-        b"{\"account\":\"al\",\"sum\":6,\"voucher\":\"V-0\"}",
-        DIFFERS,
-    ),
-    (
-        b"{\"account\":\"al\",\"sum\":0,\"voucher\":\"V-0\"}",
-        BAD_TOP_UP,
-    ),
-    (b"{\"account\":\"al\",\"sum\":5,\"voucher\":\"V-1\"}", ADDED),
-    (b"{\"account\":\"al\",\"sum\":1,\"voucher\":\"V-2\"}", LIMIT),
-];
-
-#[test]
-fn balances_have_a_limit(rt: HostRuntime) -> Result<(), Fail> {
-    let mut desk = Desk::new(rt.alloc())?;
-    let topup = TopUp::new(rt.alloc(), "V-0", b"al", 1, 999)?;
-    desk.book.put_topup(&topup, (1 << 62) - 5)?;
-    desk.expect_top_ups(rt.alloc(), &AT_THE_LIMIT)
-}
-
-// Whether a request gets the expected answer. If memory runs out, the book must be as it was, and
-// the next such request must get the answer.
-fn is_kept(
-    alloc: Global,
-    desk: &mut Desk<MemBook>,
-    request: &[u8],
-    want: &[u8],
-) -> Result<bool, Fail> {
-    let before = seen(&mut desk.book)?;
-    let is_unavailable = match desk.answer(alloc, request) {
-        Ok(answer) if answer.as_slice() == want => return Ok(true),
-        Ok(answer) => answer.as_slice() == UNAVAILABLE,
-        Err(_) => true,
-    };
-    Ok(is_unavailable && seen(&mut desk.book)? == before && desk.answers(alloc, request, want)?)
-}
-
-fn is_kept_when_filled(alloc: Global, request: &[u8], want: &[u8]) -> Result<bool, Fail> {
+// Whether a request is answered, at once or when it comes again.
+fn is_kept(alloc: Global, row: &Row) -> Result<bool, Fail> {
     let mut desk = Desk::new(alloc)?;
-    fill(alloc, &mut desk)?;
-    is_kept(alloc, &mut desk, request, want)
+    Ok(is_answered(alloc, &mut desk, row)?.is_some())
 }
 
-// Any allocation of this test may fail: `rt try --test --fail-alloc N`. If one before the request
+// Any allocation of this test may fail: `rt try --test --fail-alloc N`. If one before a request
 // does, the test ends without an assertion.
 #[test]
-fn refused_memory_changes_nothing(rt: HostRuntime) -> Result<(), Fail> {
-    for (request, want, _) in &ASKED {
-        assert!(rt; is_kept_when_filled(rt.alloc(), request, want)?);
+fn refused_memory_is_told(rt: HostRuntime) -> Result<(), Fail> {
+    for row in &ROWS {
+        assert!(rt; is_kept(rt.alloc(), row)?);
     }
     Ok(())
 }

@@ -1,17 +1,10 @@
-//! Tests of `acct_files`, only of its public calls.
+//! Tests of `acct_files`, of what no contract says and the built program can't show: readers,
+//! writers, books and allocations that fail. Worked texts are rows of `.ci/rows_lib/desk.py`.
 #![tactic(auto)]
 
-#[cfg(test)]
-mod config;
 #[cfg(test)]
 mod exports;
 #[cfg(test)]
 mod imports;
 #[cfg(test)]
 mod limits;
-#[cfg(test)]
-mod refused_memory;
-#[cfg(test)]
-mod signed_keys;
-#[cfg(test)]
-mod sizes;

@@ -1,19 +1,10 @@
-//! Tests of `acct_wire`, of its public calls alone.
+//! Tests of `acct_wire`: packets of other programs, and calls of a book and allocations that fail.
+//! Which datagrams are answered is proved; stamped clients are shown by `.ci/rows_lib/desk.py`.
 #![tactic(auto)]
 
 #[cfg(test)]
-mod ages;
-#[cfg(test)]
-mod clients;
-#[cfg(test)]
-mod datagrams;
-#[cfg(test)]
 mod foreign;
 #[cfg(test)]
-mod names;
-#[cfg(test)]
-mod reports;
+mod refusals;
 #[cfg(test)]
 mod site;
-#[cfg(test)]
-mod stamped;
