@@ -1,5 +1,5 @@
 //! Tests of `acct_desk`, of what no contract says and the built program can't show: calls of a book,
-//! allocations and readers that fail. What the desk answers is shown by `.ci/rows_lib/desk.py`.
+//! allocations and readers that fail. What the desk answers is shown by `rows/desk.py`.
 #![tactic(auto)]
 
 #[cfg(test)]

@@ -1,5 +1,5 @@
 //! Tests of `acct_files`, of what no contract says and the built program can't show: readers,
-//! writers, books and allocations that fail. Worked texts are rows of `.ci/rows_lib/desk.py`.
+//! writers, books and allocations that fail. Worked texts are rows of `rows/desk.py`.
 #![tactic(auto)]
 
 #[cfg(test)]

@@ -8,8 +8,8 @@ as U, and those of 20, 70 and 100 days earlier as C, B and A.
 import os
 import time
 
-from rows_lib.books import CALLING, CAUSE, DELAY, FRAMED, INTERIM, MIB, OK, ON, SECONDS, STOP
-from rows_lib.books import Tables, compares, line, octets_of, responds, site, used, wanted
+from rows.books import CALLING, CAUSE, DELAY, FRAMED, INTERIM, MIB, OK, ON, SECONDS, STOP
+from rows.books import Tables, compares, line, octets_of, responds, site, used, wanted
 from served import CASHIER, PROGRAM, check, ran
 
 DAY = 86_400

@@ -14,8 +14,8 @@ import random
 import time
 
 import books
-from rows_lib.books import HEADER, MIB, ON, STOP, Tables, compares, line, octets_of, site, used
-from rows_lib.books import wanted
+from rows.books import HEADER, MIB, ON, STOP, Tables, compares, line, octets_of, site, used
+from rows.books import wanted
 from served import CASHIER, GUEST, PROGRAM, check, ran
 
 PRICES = {"gold": (MIB, 10), "default": (1_000_000, 5)}
