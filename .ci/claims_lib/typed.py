@@ -16,7 +16,7 @@ BY_HAND = {
                          "the steps of a change; the kernel's settings nobody does",
     "docs/ACCESS-SERVERS": "each setting is of another maker's device: interop/access-servers",
     "docs/GONE": "each way needs damage of its own; interop/flips and interop/telling make some of it",
-    "docs/TROUBLE": "each symptom is another; crates/acct_program_tests makes what is explained",
+    "docs/TROUBLE": "each symptom is another; rows/run makes what is explained",
     "site/desk/README": "site/desk/live.py gives its commands; interop/queries runs that of a month",
     "site/front/README": ".ci/tool_tests types the import and the removal of users; interop/moved "
                          "moves a table; site/front/test_cut.py ends sessions",

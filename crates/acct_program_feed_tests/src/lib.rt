@@ -1,5 +1,0 @@
-//! Tests of `acct_program_feed`, of its public calls alone.
-#![tactic(auto)]
-
-#[cfg(test)]
-mod scripts;
