@@ -6,8 +6,4 @@ mod clock;
 #[cfg(test)]
 mod failing;
 #[cfg(test)]
-mod sample_site;
-#[cfg(test)]
-mod serving;
-#[cfg(test)]
-mod texts;
+mod runs;

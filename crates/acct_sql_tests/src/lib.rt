@@ -2,30 +2,8 @@
 #![tactic(auto)]
 
 #[cfg(test)]
-mod additions;
-#[cfg(test)]
-mod asking;
-#[cfg(test)]
-mod both_books;
-#[cfg(test)]
-mod databases;
-#[cfg(test)]
-mod forwarding;
-#[cfg(test)]
-mod many_plans;
-#[cfg(test)]
-mod migrations;
-#[cfg(test)]
-mod older_books;
-#[cfg(test)]
-mod refused_memory;
-#[cfg(test)]
-mod remembering;
+mod calls;
 #[cfg(test)]
 mod sample_book;
 #[cfg(test)]
-mod sites;
-#[cfg(test)]
-mod trial;
-#[cfg(test)]
-mod walks;
+mod sizes;
