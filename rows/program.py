@@ -30,6 +30,7 @@ def done(*lines):
 
 
 def refused(line):
+    """How a command ends that is refused with this line."""
     return 1, "", line + "\n"
 
 
@@ -76,6 +77,7 @@ class Site(Server):
         check("and no file changes", self.files() == before, True)
 
     def files(self):
+        """The octets of each file."""
         found = (self.at(it) for it in os.listdir(self.folder))
         return {it: read(it) for it in found if os.path.isfile(it)}
 
@@ -93,7 +95,7 @@ class Site(Server):
                 self.ask("POST", "/topups", CASHIER, json.dumps(wish))
 
 
-UPLOAD, BALANCES = VOUCHER + "V-2,bo,300\nV-1,al,501\n", done(ACCOUNTS, "al,500,0", "bo,300,0")
+UPLOAD = VOUCHER + "V-2,bo,300\nV-1,al,501\n"
 LISTED = ["class,block,unit,count", "gold,1048576,10,both", "default,1000000,5,both"]
 # A site from its first command to the last. `more` has another plan, `other` lacks one.
 LIFE = [
@@ -227,26 +229,31 @@ def otherwise(site, log, wanted):
     return [] if got == wanted and is_left else [(len(log), got, is_left)]
 
 
+def hurt(log, is_once):
+    """A log of three commits, damaged or cut in each frame, and what is told of it."""
+    number, is_first = 0, True
+    places, commits = chained(log)
+    for place in places:
+        is_torn = is_once and number > 0
+        yield flipped(log, place + FRAME + 1_000), SIZES if is_torn and number == 2 else SHUT
+        for more in (0, FRAME - 1, FRAME, 1_000, FRAME + 4_095):
+            is_unseen = is_torn or (is_first and more < FRAME)
+            yield log[:place + more], SIZES if is_unseen else SHUT
+        is_first, number = place in commits, number + (place in commits)
+    yield log, SIZES if number == 3 else None
+
+
 def frames(folder):
     """Damage of each frame of a log is noticed, but with `--sync once` that of the last commit. So
     is a cut in a commit, if that was synced before it was sealed.
     """
     for how in ("twice", "once"):
-        site, number, is_first, wrong = Site(folder, how), 0, True, []
+        site = Site(folder, how)
         site.comes(("init", MADE))
         site.sell(3, "--sync", how)
-        log = read(site.at("book-wal"))
-        places, commits = chained(log)
-        for place in places:
-            is_torn = how == "once" and number > 0
-            hurt = flipped(log, place + FRAME + 1_000)
-            wrong += otherwise(site, hurt, SIZES if is_torn and number == 2 else SHUT)
-            for more in (0, FRAME - 1, FRAME, 1_000, FRAME + 4_095):
-                is_unseen = is_torn or (is_first and more < FRAME)
-                wrong += otherwise(site, log[:place + more], SIZES if is_unseen else SHUT)
-            is_first, number = place in commits, number + (place in commits)
-        check(f"--sync {how}: logs damaged and cut", (wrong, number), ([], 3))
-        check("and one that is whole", otherwise(site, log, SIZES), [])
+        rows = [*hurt(read(site.at("book-wal")), how == "once")]
+        wrong = [it for log, wanted in rows for it in otherwise(site, log, wanted)]
+        check(f"--sync {how}: {len(rows)} logs, whole, damaged and cut", wrong, [])
 
 
 def damaged(folder):

@@ -7,7 +7,7 @@ import sqlite3
 import subprocess
 import time
 
-from rows.program import ACCOUNTS, DAY, DEFAULT, DIFFER, MADE, SIZES, UNREAD, VOUCHER, Site
+from rows.program import ACCOUNTS, DAY, DIFFER, MADE, SIZES, UNREAD, VOUCHER, Site
 from rows.program import done, refused, words_of
 from served import CLIENT_AND_KEYS, PLANS, PROGRAM, check, plan, ran
 

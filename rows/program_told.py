@@ -66,6 +66,7 @@ def ruled():
 
 
 def configurations(folder):
+    """The first fault of a configuration, and its line."""
     site = Site(folder, "configurations")
     for text, line, told in [*WRONG, *ruled()]:
         site.put("f", text.replace(";", "\n"))
@@ -128,6 +129,7 @@ TOLD = [
 
 
 def files(folder):
+    """Why a file is not read, opened or made."""
     site, hurt = Site(folder, "files"), flipped(log_of(1, 1), 99)
     for name, log in (("hurt", flipped(hurt, 30)), ("one", flipped(log_of(1), 99)), ("torn", hurt),
                       ("spilt", flipped(log_of(0), 99)), ("lost", log_of(1, 1, 1))):
@@ -159,6 +161,7 @@ PLANS = [
 
 
 def plans(folder):
+    """Which plan differs from those that a book keeps, and how."""
     site = Site(folder, "plans", CLIENT_AND_KEYS + DEFAULT + PLANS[0][0])
     site.comes(("init", MADE))
     for text, told in PLANS:

@@ -7,7 +7,7 @@ import re
 ROOT = os.path.dirname(os.path.dirname(os.path.dirname(os.path.abspath(__file__))))
 # Folders that are made by a build, and no part of the repository.
 MADE = {".git", "out", "target", "__pycache__"}
-FOR_TESTS = re.compile(r"_tests$|^acct_book_fakes$|^foreign_packets$|^chosen_sizes$")
+FOR_TESTS = re.compile(r"_tests$|^acct_book_fakes$|^foreign_packets$")
 # The folders of what is no crate.
 SCRIPTS = (".ci/", "bench/", "bin/", "debian/", "interop/", "site/")
 # What gives no name: pages, which are compared with names, and what is put into pages.
