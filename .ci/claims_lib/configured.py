@@ -41,14 +41,12 @@ SAMPLE = "debian/radacctd.default"
 
 def settings(_checker):
     """Each setting of the service with its default, and the first sentence of its comment."""
-    yield "| Name | Default | What it is |"
-    yield "|---|---|---|"
     for part in text_of(SAMPLE).split("\n\n")[1:]:
         about = contracts.first_of(" ".join(re.findall(r"(?m)^# (.*)$", part))).rstrip(".")
         about = re.sub(r"(--[a-z-]+(?: once)?|/var/\S+)", r"`\1`", about)
         for name, value in re.findall(r'(?m)^#(\w+)="?([^"\n]*)"?$', part):
-            value = f" `{value}` " if value else " "
-            yield f"| `{name}` |{value}| {about} |"
+            value = f" (`{value}`)" if value else ""
+            yield f"- `{name}`{value}: {about}"
 
 
 COUNTS = "crates/acct_program_commands/src/figures.rt"
@@ -57,14 +55,12 @@ ONE = r'let about =\s*"([^"]*)";\s*write_\w+\(output, "(radacctd_\w+)"'
 
 def metrics(_checker):
     """Each count with what the program writes of it."""
-    yield "| Name | What it is |"
-    yield "|---|---|"
     text = text_of(COUNTS)
     found = re.findall(r'let name = "(radacctd_\w+)";\s*let about =\s*"([^"]*)";', text)
     found += [(name, about) for about, name in re.findall(ONE, text)]
     found += re.findall(r"# HELP (radacctd_[a-z]\w+) ([^\\]*)", text)
     for name, about in found:
-        yield f"| `{name}` | {about.rstrip('.')} |"
+        yield f"- `{name}`: {about.rstrip('.')}"
 
 
 MAKERS = {"configuration": rows, "settings": settings, "metrics": metrics}

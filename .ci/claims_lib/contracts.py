@@ -97,10 +97,8 @@ def unclaimed(_checker):
     yield (f"Of {count} public functions {total} have no clause: {explaining} of"
            f" `acct_program_explain`, whose texts decide nothing, and {total - explaining} others:")
     yield ""
-    yield "| Crate | Functions without a clause |"
-    yield "|---|---|"
     for crate, names in without.items():
-        yield f"| `{crate}` | {', '.join(f'`{it}`' for it in names)} |"
+        yield f"- `{crate}`: {', '.join(f'`{it}`' for it in names)}"
 
 
 # Public functions that claim much, and are none of the seven.
@@ -121,8 +119,6 @@ CLAIMING = {
 
 def claims(checker):
     """Each of these functions with its file, its comment, and the names of its clauses."""
-    yield "| Function | What it does | Clauses |"
-    yield "|---|---|---|"
     for crate, wanted in CLAIMING.items():
         found = {}
         for path in sources_of(crate):
@@ -135,7 +131,7 @@ def claims(checker):
                 continue
             path, about, clauses = found[name]
             said = ", ".join(f"`{it}`" for it in clauses)
-            yield f"| [`{name}`](../{path}) | {about} | {said} |"
+            yield f"- [`{name}`](../{path}): {about} ({said})"
 
 
 MAKERS = {"unclaimed": unclaimed, "claims": claims}

@@ -58,16 +58,15 @@ def counted(text):
 
 
 def rows(checker):
-    yield "| Source | By itself | Passed on |"
-    yield "|---|---|---|"
     for path in sorted(filter(is_of_program, checker.tree.files)):
         text = without_comments(text_of(path))
         for found in RENAMED.finditer(text):
             checker.find(1, f"{path}: {found[1] or found[2]}: another name of a failure")
         own, passed = counted(text)
         if own or passed:
-            by_itself = ", ".join(f"`{name}` {count}" for name, count in own.items())
-            yield f"| `{path.removeprefix('crates/')}` | {by_itself} | {passed or ''} |"
+            told = [f"`{name}` {count}" for name, count in own.items()]
+            told += [f"{passed} passed on"] if passed else []
+            yield f"- `{path.removeprefix('crates/')}`: {', '.join(told)}"
 
 
 MAKERS = {"failures": rows}

@@ -15,9 +15,9 @@ COMMANDS, EXPLAIN = "crates/acct_program_commands/src", "crates/acct_program_exp
 FAULT, STATUS = f"{COMMANDS}/fault.rt", "crates/acct_program/src/status.rt"
 # What ends a command without one of these texts.
 OTHERS = (
-    "| usage, or `error: invalid data` | 2 | bad command line, not UTF-8, or out of memory while"
+    "| usage, or `error: invalid data`, 2 | bad command line, not UTF-8, or out of memory while"
     " reading it | `--help` |",
-    "| no text | 1 | standard output is closed or full | give it again |",
+    "| no text, 1 | standard output is closed or full | give it again |",
 )
 
 
@@ -55,10 +55,10 @@ def status_of(variant):
 
 def fault_rows(checker):
     found = faults()
-    yield "| Text | Status | Cause | What to do |"
-    yield "|---|---|---|---|"
+    yield "| Text, status | Cause | What to do |"
+    yield "|---|---|---|"
     for text, cause, cure in meanings.compared(checker, "faults", found):
-        yield f"| `{text}` | {status_of(found.get(text))} | {cause} | {cure} |"
+        yield f"| `{text}`, {status_of(found.get(text))} | {cause} | {cure} |"
     yield from OTHERS
 
 
@@ -68,11 +68,11 @@ def fault_rows(checker):
 def reason_rows(checker):
     """A row for each reason, in the order in which they are tested."""
     found = variants("crates/acct_wire/src/reason.rt", "Reason")
-    yield "| No. | Reason | Cause | What to do |"
-    yield "|---|---|---|---|"
+    yield "| Reason | Cause | What to do |"
+    yield "|---|---|---|"
     for name, _, cure in meanings.compared(checker, "reasons", found):
         about, number = found.get(name, ("", ""))
-        yield f"| {number} | {name} | {about} | {cure} |"
+        yield f"| {number} {name} | {about} | {cure} |"
 
 
 # ---- what is wrong with a configuration or a record

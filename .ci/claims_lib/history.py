@@ -73,18 +73,17 @@ def plain(text):
 
 def figures(checker, topics):
     """The last figure of each question of these topics."""
-    yield "| What | Figure | Compared with, and notes | Seen |"
-    yield "|---|---|---|---|"
+    yield "| What | Figure | Compared with, notes; when |"
+    yield "|---|---|---|"
     for topic in topics.split():
         chosen = [it for it in latest().values() if it["id"].startswith(f"{topic}/")]
         if not chosen:
             checker.find(1, f"{PATH} has no topic {topic}")
         for row in chosen:
-            beside = "; ".join(it for it in (compared(row), numbers(row["note"])) if it)
+            beside = "; ".join(it for it in (compared(row), numbers(row["note"]), seen(row)) if it)
             what = f"{plain(row['what'])} (`{row['script']}`)"
             what = what if row["script"] not in ("by hand", "computed") else plain(row["what"])
-            cells = (what, shown(row), plain(beside), seen(row))
-            yield ("| " + " | ".join(cells) + " |").replace("|  |", "| |")
+            yield f"| {what} | {shown(row)} | {plain(beside)} |"
 
 
 # ---- whether the file and the marks are right

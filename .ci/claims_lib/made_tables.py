@@ -110,10 +110,8 @@ def wrong_bodies(checker):
 
 def by_eye(_checker):
     """What a person reads of code, with why."""
-    yield row("Source", "Lines", "What it is to do")
-    yield "|---|---|---|"
     for cell, count, why in openers.by_eye():
-        yield row(cell, str(count), why)
+        yield f"- {cell}, {count} lines: {why}"
     total = sum(count for _, count, _ in openers.by_eye())
     yield ""
     most = openers.MOST_BY_EYE

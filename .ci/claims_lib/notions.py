@@ -41,8 +41,8 @@ def shown(comment):
 
 def notions(checker, words):
     """A row for each definition."""
-    yield "| Definition | What it is | File |"
-    yield "|---|---|---|"
+    yield "| Definition | What it is |"
+    yield "|---|---|"
     for path, names in named(words):
         text = text_of(path) if path in checker.tree.paths else ""
         for name in names:
@@ -50,8 +50,7 @@ def notions(checker, words):
             if not comment:
                 checker.find(1, f"{path} has no `{name}` with a comment")
                 continue
-            link = f"[{os.path.basename(path)}](../{path})"
-            yield f"| `{name}` | {shown(comment)} | {link} |"
+            yield f"| [`{name}`](../{path}) | {shown(comment)} |"
 
 
 def members(checker, words):

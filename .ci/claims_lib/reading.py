@@ -35,13 +35,11 @@ def needed(checker):
 def definitions(checker):
     """What an auditor reads of definitions: a row for each contract, and the sum."""
     page, rows, total = checker.page, needed(checker), 0
-    yield "| Contract | Lines | In the `specs` of |"
-    yield "|---|---|---|"
     for name, parts in rows.items():
         crates = ", ".join(dict.fromkeys(f"`{it.path.split('/')[1]}`" for it in parts))
         count = sum(len(it.lines) for it in parts)
         total += count
-        yield f"| `{name}` | {count:,} | {crates} |"
+        yield f"- `{name}`: {count:,} lines, in the `specs` of {crates}"
     paths = {it.path for parts in rows.values() for it in parts}
     yield ""
     yield (f"These are {total:,} lines of {len(paths)} files: each definition that a contract names"

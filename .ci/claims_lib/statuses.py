@@ -21,7 +21,8 @@ NUMBERS = {
     "UNPROCESSABLE_ENTITY": 422, "SERVICE_UNAVAILABLE": 503,
 }
 # Whose key has a role.
-BEARERS = dict(Account="a guest's", Cashier="a cashier's", Clerk="`accounts`", Logins="the front's")
+BEARERS = dict(Account="a guest's", Cashier="a cashier's", Clerk="an `accounts`",
+               Logins="the front's")
 
 
 def bodies():
@@ -44,20 +45,18 @@ def rows(checker):
     yield "|---|---|---|"
     for words, cause, _ in meanings.compared(checker, "statuses", found):
         status, kind = found.get(words, ("", ""))
-        yield f'| {status} | `{{"{kind}":"{words}"}}` | {cause} |'
+        yield f'| {status} | `"{kind}"`: `"{words}"` | {cause} |'
     yield "| 200 | a page | a question was answered |"
 
 
 def requests(checker):
     """Each path of the desk with its method, whose key it takes, and what is there."""
     routes, asking = text_of("crates/acct_desk/src/routes.rt"), text_of("crates/acct_desk/src/asking.rt")
-    yield "| Path | Method | Key | What is there |"
-    yield "|---|---|---|---|"
     found = re.findall(r"    /// `(/[A-Za-z/\[\]]+)`: (.+?)\.\n    (\w+),", routes)
     for path, about, name in found:
         method = "POST" if re.search(rf"Endpoint::{name} => \"POST\"", routes) else "GET"
         role = re.search(rf"Endpoint::{name}, Role::(\w+)", asking) or ("", "Account")
-        yield f"| `{path}` | {method} | {BEARERS[role[1]]} | {about} |"
+        yield f"- {method} `{path}`, by {BEARERS[role[1]]} key: {about}"
     fixed = {it[0] for it in found if it[0].islower()}
     if fixed != set(re.findall(r'router.insert\("([^"]+)"', routes)):
         checker.find(1, "a path of the desk has no comment")

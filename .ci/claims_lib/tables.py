@@ -24,14 +24,14 @@ def rows(checker):
     found = list(columns())
     named = {f"{table}.{name}" for table, name, _, _ in found}
     about = {text: meaning for text, meaning, _ in meanings.compared(checker, "book", named)}
-    yield "| Table | Column | Type | Meaning |"
-    yield "|---|---|---|---|"
+    yield "| Column | Type | Meaning |"
+    yield "|---|---|---|"
     last = ""
     for table, name, kind, is_key in found:
-        first = f"`{table}`" if table != last else ""
+        if table != last:
+            yield f"| **`{table}`** | | |"
         kind = f"{kind}, key" if is_key else kind
-        meaning = about.get(f"{table}.{name}", "")
-        yield f"| {first} | `{name}` | {kind} | {meaning} |".replace("|  |", "| |")
+        yield f"| `{name}` | {kind} | {about.get(f'{table}.{name}', '')} |"
         last = table
 
 

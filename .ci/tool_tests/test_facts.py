@@ -23,7 +23,7 @@ class Away(unittest.TestCase):
 
     def test_each_503_has_a_row(self):
         with open(os.path.join(ROOT, "docs/reference/requests.md"), encoding="utf-8") as file:
-            bodies = set(re.findall(r'\| 503 \| `\{"error":"(\w+)"\}` \|', file.read()))
+            bodies = set(re.findall(r'\| 503 \| `"error"`: `"(\w+)"` \|', file.read()))
         self.assertEqual(bodies, {"unavailable"})
         with open(os.path.join(ROOT, "docs/TROUBLE.md"), encoding="utf-8") as file:
             rows = re.findall(r"(?m)^\| 503 with `(\w+)` \| (.*?) \| (.*) \|$", file.read())
