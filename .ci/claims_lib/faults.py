@@ -66,33 +66,29 @@ def fault_rows(checker):
 
 
 def reason_rows(checker):
-    """A row for each reason, in the order in which they are tested."""
+    """A line for each reason, in the order in which they are tested."""
     found = variants("crates/acct_wire/src/reason.rt", "Reason")
-    yield "| Reason | Cause | What to do |"
-    yield "|---|---|---|"
     for name, _, cure in meanings.compared(checker, "reasons", found):
         about, number = found.get(name, ("", ""))
-        yield f"| {number} {name} | {about} | {cure} |"
+        yield f"- {number} {name}: {about}. Cure: {cure}"
 
 
 # ---- what is wrong with a configuration or a record
 
-# Of each table its source, the type, and the heads of its columns.
-TABLES = {
-    "config": ("acct_site_config/src/config_error.rt", "ConfigKind", "| Kind | Cause | Cure |"),
-    "record": ("acct_files/src/import_report.rt", "Cause", "| Cause | When | Cure |"),
-    "stopped": ("acct_files/src/import_report.rt", "Stopped", "| Stopped | When | Cure |"),
+# Of each list its source and the type.
+LISTS = {
+    "config": ("acct_site_config/src/config_error.rt", "ConfigKind"),
+    "record": ("acct_files/src/import_report.rt", "Cause"),
+    "stopped": ("acct_files/src/import_report.rt", "Stopped"),
 }
 
 
 def variant_rows(checker, name):
-    source, kind, heads = TABLES[name]
+    source, kind = LISTS[name]
     found = variants(f"crates/{source}", kind)
-    yield heads
-    yield "|---|---|---|"
     cures = {text: cure for text, _, cure in meanings.compared(checker, name, found)}
     for variant, (about, _) in found.items():
-        yield f"| {variant} | {about} | {cures.get(variant, '')} |"
+        yield f"- {variant}: {about}. Cure: {cures.get(variant, '')}"
 
 
 # ---- why a book cannot be opened

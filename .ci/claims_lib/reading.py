@@ -14,9 +14,9 @@ PAGE, TITLE = "docs/proofs/AUDIT.md", "The promise, in seven rows"
 def promise_of(checker):
     """The seven functions of the promise, each with its file."""
     for block in checker.pages[PAGE]:
-        found = re.fullmatch(r"\|[^|]*\| `(\w+)` \| `([\w/]+\.rt)` \|", block.text)
+        found = re.fullmatch(r"\|[^|]*\| \[`(\w+)`\]\(../../(crates/[\w/]+\.rt)\) \|", block.text)
         if found and block.title == TITLE:
-            yield found[1], f"crates/{found[2]}"
+            yield found[1], found[2]
 
 
 def needed(checker):
