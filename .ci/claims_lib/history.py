@@ -73,8 +73,8 @@ def plain(text):
 
 def figures(checker, topics):
     """The last figure of each question of these topics."""
-    yield "| What | Figure | Compared with, notes; when |"
-    yield "|---|---|---|"
+    yield "| What | Figure; compared with, notes; when |"
+    yield "|---|---|"
     for topic in topics.split():
         chosen = [it for it in latest().values() if it["id"].startswith(f"{topic}/")]
         if not chosen:
@@ -83,7 +83,7 @@ def figures(checker, topics):
             beside = "; ".join(it for it in (compared(row), numbers(row["note"]), seen(row)) if it)
             what = f"{plain(row['what'])} (`{row['script']}`)"
             what = what if row["script"] not in ("by hand", "computed") else plain(row["what"])
-            yield f"| {what} | {shown(row)} | {plain(beside)} |"
+            yield f"| {what} | **{shown(row)}**; {plain(beside)} |"
 
 
 # ---- whether the file and the marks are right

@@ -28,10 +28,8 @@ BY_HAND = {
 
 def rows(_checker):
     """Each page for operators with the script that types its commands, or why a person does."""
-    yield "| Page | Its commands are typed by |"
-    yield "|---|---|"
     for name in sorted({*RUN, *BY_HAND} - {"README"}):
-        yield f"| {name} | {f'`{RUN[name]}`' if name in RUN else f'a person: {BY_HAND[name]}'} |"
+        yield f"- {name}: {f'`{RUN[name]}`' if name in RUN else f'a person: {BY_HAND[name]}'}"
 
 
 MAKERS = {"followed": rows}
