@@ -17,7 +17,7 @@ import served
 from served import CASHIER, GUEST, PROGRAM, SECRET, attribute, check, is_response, ran, signed
 from served import text_of
 
-START, STOP, INTERIM, ON = 1, 2, 3, 7
+START, STOP, INTERIM, ON, OFF = 1, 2, 3, 7, 8
 MIB, MOST, LEAST = 1 << 20, (1 << 63) - 1, -4_611_686_018_000_000_000
 DELAY, SECONDS, CAUSE, CALLING, FRAMED, PROXY = 41, 46, 49, 31, 8, 33
 CLIENTS = {"ap1": "127.0.0.1", "ap2": "127.0.0.2", "ap10": "127.0.0.10", "books": "127.0.0.8"}
@@ -221,7 +221,28 @@ STORIES = {
            ("session ap2 r1", "session ap2 r1 again gold 1048576 1 20 closed 11")]
         + costs("again", ("r1", 2 * MIB, 1, -40), client="ap2")
         + [("session ap2 r1", "session ap2 r1 again gold 2097152 1 30 closed 11")]
-        + costs("again", ("r1", 2 * MIB, 1, -40), client="ap2", kind=STOP, more=[(CAUSE, 2)]),
+        + costs("again", ("r1", 2 * MIB, 1, -40), client="ap2", kind=STOP, more=[(CAUSE, 2)])
+        + costs("again", ("r3", 1, 0, -50), client="ap2")
+        # Of a restart only the status is read: this delay is no number.
+        + [(line(octets_of((40, OFF), (DELAY, b"")), "ap2"), "reply 05070014")],
+    # Of reports of which no more is counted the greater total is kept, and then the greater input.
+    "what plans count, in any order":
+        costs("counts", ("c1", 5_000_000, 1, -10), ("c1", 0, MIB + 1, -20),
+              ("c2", 0, MIB + 1, -40), ("c2", 5_000_000, 1, -40), plan="down")
+        + costs("counts", ("c3", 5_000_000, 1, -90), ("c3", 0, MIB + 1, -90),
+                ("c4", 0, MIB + 1, -90), ("c4", 5_000_000, 1, -140), plan="up")
+        + costs("counts", ("c5", 0, 5, -150), ("c5", 3, 5, -150),
+                ("c6", 3, 5, -160), ("c6", 0, 5, -160), plan="down")
+        + costs("counts", ("c7", 3, 5, -170), ("c7", 5, 3, -170),
+                ("c8", 5, 3, -180), ("c8", 3, 5, -180)),
+    "each field of several reports":
+        costs("keeps", ("k1", MIB - 6, 8, -20), more=[
+            (SECONDS, 60), (CAUSE, 3), (FRAMED, bytes([10, 9, 8, 7]))])
+        + costs("keeps", ("k1", 5, MIB - 5, -20), plan="silver", kind=STOP, more=[
+            (DELAY, 700), (SECONDS, 59), (CAUSE, 0xffffffff), (CALLING, "00-0c"),
+            (FRAMED, bytes([10, 9, 8, 6]))])
+        + costs("keeps", ("k1", 7, 0, -20), kind=STOP, more=[
+            (SECONDS, 0xffffffff), (CAUSE, 5), (CALLING, "00-0d")]),
     "sessions at several clients": [pair for at, (client, session) in enumerate(
         [("ap2", "s1"), ("ap1", "z"), ("ap2", "a"), ("ap10", "zz"), ("ap1", "m")], 1)
         for pair in costs("roams", (session, MIB, 1, -20 * at), client=client)],
@@ -244,6 +265,14 @@ ap1,%00,ids,gold,5,0,5,10,0,T,T,open,0,,
 ap1,%00%00,ids,gold,4,0,4,10,0,T,T,open,0,,
 ap1,%254g,a%25%C3%A9%0A ~,gold,3,0,3,10,0,T,T,open,0,,
 ap1,b1,blocks,gold,4294967296,0,4294967296,40960,0,T,T,open,0,,
+ap1,c1,counts,down,0,1048577,1048577,20,0,T,T,open,0,,
+ap1,c2,counts,down,0,1048577,1048577,20,0,T,T,open,0,,
+ap1,c3,counts,up,5000000,1,5000001,50,0,T,T,open,0,,
+ap1,c4,counts,up,5000000,1,5000001,50,0,T,T,open,0,,
+ap1,c5,counts,down,3,5,8,10,0,T,T,open,0,,
+ap1,c6,counts,down,3,5,8,10,0,T,T,open,0,,
+ap1,c7,counts,gold,5,3,8,10,0,T,T,open,0,,
+ap1,c8,counts,gold,5,3,8,10,0,T,T,open,0,,
 ap1,d1,waits,gold,1,0,1,10,0,T-1011,T,open,0,,
 ap1,d2,waits,gold,1,0,1,10,0,0,0,open,0,,
 ap1,e1,early,,0,0,0,0,0,T,T,stopped,1,,
@@ -251,6 +280,7 @@ ap1,f1,al,gold,4296015873,8592031747,12888047620,122920,3601,T-700,T-700,stopped
 00-41-03,192.168.7.5
 ap1,g1,rich,gold,3000000,0,3000000,30,0,T,T,open,0,,
 ap1,g2,bare,,3000000,0,3000000,15,0,T,T,open,0,,
+ap1,k1,keeps,gold,1048570,8,1048578,20,4294967295,T-700,T,stopped,4294967295,00-0c,10.9.8.7
 ap1,l1,lost,gold,2097152,1,2097153,30,0,T,T,stopped,2,,
 ap1,m,roams,gold,1048576,1,1048577,20,0,T,T,open,0,,
 ap1,s1,al,,0,0,0,0,0,T,T,open,0,,
@@ -272,6 +302,7 @@ ap10,zz,roams,gold,1048576,1,1048577,20,0,T,T,open,0,,
 ap2,a,roams,gold,1048576,1,1048577,20,0,T,T,open,0,,
 ap2,r1,again,gold,2097152,1,2097153,30,0,T,T,stopped,2,,
 ap2,r2,again,gold,1,0,1,10,0,T,T,closed,11,,
+ap2,r3,again,gold,1,0,1,10,0,T,T,closed,11,,
 ap2,s1,roams,gold,1048576,1,1048577,20,0,T,T,open,0,,
 """
 ROAMS = "ap1/m ap1/z ap10/zz ap2/a ap2/s1"
@@ -283,9 +314,10 @@ V-9,al,122937,T
 W-1,al,12,T
 """
 BALANCES = {
-    "a%25%C3%A9%0A ~": 7, '"a,b"': 5, "again": -40, "al": 29, "bare": -15, "blocks": -40_960,
-    "bo": 500, "early": 0, "falls": -40, "ids": -50, "large": -170_521_128_796_210,
-    "least": LEAST, "less": LEAST, "lost": -30, "rich": -30, "roams": -100, "waits": -20}
+    "a%25%C3%A9%0A ~": 7, '"a,b"': 5, "again": -50, "al": 29, "bare": -15, "blocks": -40_960,
+    "bo": 500, "counts": -180, "early": 0, "falls": -40, "ids": -50, "keeps": -20,
+    "large": -170_521_128_796_210, "least": LEAST, "less": LEAST, "lost": -30, "rich": -30,
+    "roams": -100, "waits": -20}
 
 
 def wanted(sessions, topups, balances):
@@ -372,6 +404,18 @@ def in_memory(config):
         check(f"memory: {name}", told, [it for _, it in rows])
 
 
+def spoiled(config):
+    """A packet that is cut, or of which any bit is another, is dropped and says nothing."""
+    cut = [FIRST[:it] for it in range(1, len(FIRST))]
+    turned = [(int.from_bytes(FIRST, "big") ^ 1 << it).to_bytes(len(FIRST), "big")
+              for it in range(8 * len(FIRST))]
+    lines = [*map(packet, cut + turned), "session ap1 s1", "balance al"]
+    told = ran([PROGRAM, "feed", "--config", config], input="\n".join(lines))[1].splitlines()
+    check("what is cut", told[: len(cut)], ["drop 2"] * 19 + ["drop 3"] * 14)
+    kept = [it for it in told[len(cut) :] if it[:5] != "drop "]
+    check("what is turned", (len(told), kept), (len(lines), ["no session", "balance al 0"]))
+
+
 def in_tables(server):
     """The same lines by `serve`, but for sessions, which the exports have."""
     with server.serving():
@@ -389,12 +433,13 @@ def in_tables(server):
 def run(folder):
     """Tries the rows in an empty folder."""
     plans = [("gold", "both", MIB, 10), ("default", "both", 1_000_000, 5),
-             ("dear", "both", 1, 1_000_000_000)]
+             ("dear", "both", 1, 1_000_000_000), ("down", "out", MIB, 10), ("up", "in", MIB, 10)]
     names = {0: "T", 700: "T-700", 1011: "T-1011"}
     server = Tables(os.path.join(folder, "book"), CLIENTS, site(CLIENTS, plans, "al"), names)
     in_memory(server.config)
+    spoiled(server.config)
     in_tables(server)
     check("an audit", server.told("check", "--audit"), (
-        0, "ok: 4 clients, 3 plans, 2 keys\n"
-        f"balanced: {len(BALANCES)} accounts, 31 sessions, 5 vouchers\n", ""))
+        0, "ok: 4 clients, 5 plans, 2 keys\n"
+        f"balanced: {len(BALANCES)} accounts, 41 sessions, 5 vouchers\n", ""))
     imports(server)

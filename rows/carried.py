@@ -72,6 +72,17 @@ ASKED = [
     (f"balance {NAME}", f"balance {NAME} -8"), (f"session {LONGEST} {NAME}",
      f"session {LONGEST} {NAME} {NAME} {NAME} 1048576 1 20 stopped 0")]
 STAY = "stay: 1 open, 1 recent, 1 kept, 0 too large\n"
+LISTED = ["default,1000000,5,both", "up,1000,3,in", "down,1000,2,out", "free,1000,0,both",
+          "fee,9007199254740992,7,both", f"{NAME},1048576,10,both"]
+# Reports that are as old as they may be, or a second older, by their client. A rule comes before
+# the age, and a restart has none. No two drops have both their reason and their client alike.
+PAST = (DELAY, 90 * DAY + 1)
+AGED = [
+    ("ap1", [(40, STOP), (44, "e1"), (1, "eve"), (42, 1), (DELAY, 90 * DAY)], "reply 05070014"),
+    ("ap1", [(40, STOP), (44, "e2"), (1, "eve"), (42, 1), PAST], "drop 14"),
+    ("ap2", [(40, STOP), (44, "e3"), (1, "eve"), (42, 1), (DELAY, 0xffffffff)], "drop 14"),
+    ("ap2", [(40, STOP), PAST], "drop 9"), ("ap2", [(40, ON), PAST], "reply 05070014"),
+    ("ap2", [(40, STOP), (44, "e4"), (42, b""), PAST], "drop 10")]
 
 
 def lines(up, kept):
@@ -111,6 +122,14 @@ def late(server):
         check("an old voucher is a repeat", server.answer("topup 0 V-1 al 100"), "repeat")
 
 
+def aged(server):
+    """Which reports are too old."""
+    with server.serving("--oldest-report", "90"):
+        for client, pairs, answer in AGED:
+            check(f"{answer}: by its age", server.answer(line(octets_of(*pairs), client)), answer)
+        check("and what is charged", server.answer("balance eve"), "balance eve -5")
+
+
 def run(folder):
     """Tries the rows in an empty folder."""
     names = {0: "T", 100 * DAY: "A", 70 * DAY: "B", 20 * DAY: "C"}
@@ -142,3 +161,5 @@ def run(folder):
     balances = {"al": 47, "bo": -8400, NAME: -8}
     compares(server, wanted(lines("8000,0,8000,24,0,T,U", "2040,0,2040,9"), TOPUPS, balances))
     check("another audit", server.told("check", "--audit"), (0, audit.format(10), ""))
+    check("the plans", server.told("plans", "--list")[1].splitlines()[1:], LISTED)
+    aged(server)

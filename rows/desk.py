@@ -206,11 +206,13 @@ OWN = [("balance", balance("al", -31)), ("sessions", page(account="al", sessions
 OVER = page(overruns=[{"account": "al", "overrun": 31}, {"account": 'c"%00,d', "overrun": 12}])
 # Which signed keys show the account al, and which do not.
 ENDED = "".join(table("withdrawn", account=it, until=until) for it, until in (
-    ("b%6f", LAST), ("b%6f", 7), ("AL", LAST), ("616c", LAST), ("al", LAST - 1)))
+    ("b%6f", LAST), ("b%6f", 7), ("AL", LAST), ("616c", LAST), ("al", LAST - 1),
+    ("%6D" * 253, LAST)))
 SHOWING = [key_of("al"), key_of("al", secret=OLD), key_of("al", (1 << 64) - 1)]
 TEXT, RIGHT = f"616c.{LAST}.", key_of("al")[-32:]
 WRONG = [
     key_of("al", 1000), key_of("al", LAST - 1), key_of("bo"), key_of("al", secret="nobody"), TEXT,
+    key_of("m" * 253),
     sealed(TEXT, ""), sealed(TEXT, "stamp;"), TEXT + key_of("bo")[-32:], TEXT + RIGHT[:-1],
     f"616c.{LAST + 1}." + RIGHT, TEXT + RIGHT + "0", TEXT + RIGHT.upper(), *map(sealed, (
         "616c..", TEXT[:-1], f"616c{LAST}", f"616C.{LAST}.", f"616c.0{LAST}.", f"616c.+{LAST}.",
@@ -241,6 +243,8 @@ def keys(folder):
             *(post(sale("V-9", 5), it) for it in (SHOWING[0], FRONT))]))
     words = [PROGRAM, "key", "--config", server.config, "--until", "1000", "al"]
     check("a key is printed", ran(words), (0, "616c.1000.97aa7f538d4c5306f8b96296bd885931\n", ""))
+    made = [ran([*words[:-1], "n" * it])[1] for it in range(1, 254)]
+    check("and one of each size", made, [key_of("n" * it, 1000) + "\n" for it in range(1, 254)])
 
 
 def login(account, octets, name="gold", counted="total", going=4, others=None, digits=""):

@@ -48,7 +48,7 @@ KEPT = [
     ("nas-7", b"s3", b"al", b"gold", 7, CLOSED, OLD + 2),
     ("nas-8", b"s4", b"bo", b"gold", 4 * MIB, STOPPED, OLD + 3),
     ("nas-8", b"s5", b"bo", b"default", 8, OPEN, LATE),
-    ("nas-9", b"s6", b"cy", b"gold", 9, CLOSED, LATE + 1),
+    ("nas-9", b"s6", b"cy", b"gold", 9, CLOSED, LATE),
     ("nas-9", b"s7", b"cy", b"gold", MOST, STOPPED, OLD + 4)]
 CREDITED = [("V-1", b"al", 300), ("V-2", b"al", 44), ("V-3", b"bo", 600), ("V-4", b"cy", 9)]
 OWED = 87_960_930_222_081
@@ -160,7 +160,7 @@ def many(folder):
     site, wide, other = Site(folder, "long-names"), b"\xff" * 253, b"\xfe" * 253
     site.comes(("init", MADE))
     fill(site, [(CLIENT, wide, wide, b"gold", 9, OPEN, OLD),
-                (CLIENT, other, other, b"gold", 9, STOPPED, LATE)], [], [(wide, 7)])
+                (CLIENT, other, other, b"gold", 9, STOPPED, (1 << 53) - 1)], [], [(wide, 7)])
     found = (f"{SIZES[1]}{WIDE}: balance 7, vouchers 0, sessions 10\n"
              f"{OTHER}: no balance, and the session {CLIENT} {OTHER}\n")
     listed = [f"open: {CLIENT} {WIDE} of {WIDE}, silent since {OLD}"]
@@ -178,6 +178,9 @@ def many(folder):
     site.comes((f"forward --yes --at {OLD} --silent 60", wanted))
     site.put("more", CLIENT_AND_KEYS + PLANS + "".join(plan(f"class {it}") for it in range(254)))
     site.comes(("check --config more", DIFFER), ("plans --config more", done("added 254")),
+               ("check --config more", done("ok: 1 clients, 256 plans, 2 keys")))
+    site.alter("DROP TABLE session_plan; DROP TABLE plan_count; UPDATE meta SET value = 1;")
+    site.comes(("migrate --config more", done("schema 3")),
                ("check --config more", done("ok: 1 clients, 256 plans, 2 keys")))
 
 

@@ -57,6 +57,26 @@ WRONG = [
      "and there is no [stamp] with a secret")]
 
 
+# Texts, and how their first fault is printed: what is behind it is wrong, too. Of each array there
+# are the most elements, and one more.
+BOTH = "{name='a',address='1.2.3.4',secret='s'},{name='b',address='1.2.3.4',secret='s'}"
+PRICE, KEY = "{class='a',block=1,unit=0}", "{token='al-key-000000000',account='al'}"
+FAULTS = [
+    (f"client=[{BOTH},1]", "TwiceClient in Client 1"),
+    (f"client=[{BOTH.replace('4', '256', 1)}]", "BadClient in Client 0"),
+    ("client=[{name='',address='1.2.3.4',secret='s',port=1}]", "BadShape in Client 0"),
+    (f"plan=[{PRICE},{PRICE},1]", "TwicePlanned in Plan 1"),
+    (f"plan=[{PRICE},{PRICE.replace('0', '1000000001')}]", "BadPlan in Plan 1"),
+    (f"key=[{KEY},{KEY},1];{PLAN}", "TwiceKeyed in Key 1"),
+    (f"withdrawn=[1];key=[{KEY.replace('-', '_')}];{PLAN}", "BadKey in Key 0"),
+    (f"withdrawn=[1];stamp={{secret='0123456789abcdef',old=''}};{PLAN}", "BadStamp in Top 0"),
+    (f"withdrawn=[{{account='',until=1}},1];{PLAN}", "BadWithdrawn in Withdrawn 0"),
+    *((f"{name}=[{'0,' * (most + more)}];{end}", f"BadShape in {'Top' if more else name.title()} 0")
+      for name, most, end in (
+          ("client", 1024, ""), ("plan", 256, ""), ("key", 4096, PLAN), ("withdrawn", 1024, PLAN))
+      for more in (0, 1))]
+
+
 def ruled():
     """A configuration for each rule, which its second table breaks."""
     for text, rule in RULES:
@@ -74,6 +94,9 @@ def configurations(folder):
         begun, place = errors.startswith("config: "), f"f line {line}" if line else "f"
         check(f"explained: {text[:60]}", (status, said, begun, errors.splitlines()[1:]),
               (1, "", True, [f"explained: {place}: {told}"]))
+    for text, told in FAULTS:
+        site.put("f", text.replace(";", "\n"))
+        check(f"{told}: {text[:40]}", site.ran("check - --config f"), refused(f"config: {told}"))
 
 
 # Two clients and two keys, of which the second each has a value of the sample.
