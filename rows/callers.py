@@ -1,5 +1,5 @@
 """Access servers and callers of the desk, as a server on loopback hears and answers them: very
-many, many at once, at several addresses, slow, silent, and as long as they may be.
+many, many at once, at several addresses, without a pause, slow, silent, and as long as they may be.
 """
 
 import contextlib
@@ -8,11 +8,13 @@ import os
 import random
 import signal
 import socket
+import subprocess
+import sys
 import time
 
 import books
 from served import CASHIER, CLIENT_AND_KEYS, GUEST, PLANS, SECRET
-from served import Server, attribute, check, is_response, signed
+from served import Server, attribute, check, is_response, signed, text_of, until
 
 GUESTS, PLACES = range(100, 200), 64
 SOURCES = ["127.9.81.163", "127.202.35.4"]
@@ -108,6 +110,40 @@ def addresses(folder):
         check("in turns", [it for it, after in zip(order, order[1:]) if it == after], [])
         check("the desk has an address of its own",
               page(taken(caller(server, request(), "127.0.0.99"))), page_of("room 12"))
+
+
+# Sends a datagram again and again.
+FLOOD = """import socket, sys
+octets, sender = bytes.fromhex(sys.argv[1]), socket.socket(socket.AF_INET, socket.SOCK_DGRAM)
+while True:
+    sender.sendto(octets, ("127.0.0.1", int(sys.argv[2])))
+"""
+
+
+def waiting(server):
+    """How many octets wait in the system at 127.0.0.1."""
+    lines = (it.split() for it in text_of("/proc/net/udp").splitlines())
+    return sum(int(it[4].split(":")[1], 16) for it in lines
+               if it[1] == f"0100007F:{server.radius:04X}")
+
+
+def busy(folder):
+    """Beside an address that is never idle others are heard that were, and so are callers."""
+    server, found = site(folder), []
+    words = [sys.executable, "-c", FLOOD, signed(1, START).hex(), str(server.radius)]
+    binds = [word for it in (1, 2, 3) for word in ("--bind", f"127.0.0.{it}")]
+    with server.serving(*binds), subprocess.Popen(words) as flooding, sender() as client:
+        try:
+            for place in (3, 2):
+                check("reports wait", until(lambda: waiting(server) > 40_000), True)
+                begun, asked = time.monotonic(), signed(place, START)
+                client.sendto(asked, (f"127.0.0.{place}", server.radius))
+                found.append(is_response(client.recv(4_096), asked))
+                found.append(page(taken(caller(server, request()))) == page_of("room 12"))
+                found.append(time.monotonic() - begun < 5)
+        finally:
+            flooding.kill()
+    check("others are answered beside them", found, [True] * 6)
 
 
 def low_port(place):
@@ -206,6 +242,17 @@ def closing(server):
     check("one who sends two requests", page(taken(caller(server, request() * 2))), balance)
 
 
+def pieces(server):
+    """A request that comes in pieces is answered once it is whole, and others are meanwhile."""
+    balance, octets = page(taken(caller(server, request()))), request()
+    stream, others = caller(server, b""), []
+    for at in range(0, len(octets), 7):
+        others.append(page(taken(caller(server, request("key-of-guest-100")))))
+        stream.sendall(octets[at : at + 7])
+    check("a request in pieces", page(taken(stream)), balance)
+    check("and others meanwhile", [it for it in others if it != page_of("guest-100")], [])
+
+
 def longest(server):
     """Heads of 8,192 octets and bodies of 4,096 are the longest that are read."""
     for at, (head, body) in enumerate([
@@ -239,12 +286,12 @@ def slow(folder):
                   (200, [f"{it:060}" for it in range(many)], True))
 
 
-PARTS = [very_many, datagrams, turns, crowd, silent, closing, longest]
+PARTS = [very_many, datagrams, turns, crowd, silent, closing, pieces, longest]
 
 
 def run(folder):
     """Tries the rows in an empty folder."""
-    for part in (addresses, slow):
+    for part in (addresses, busy, slow):
         part(os.path.join(folder, part.__name__))
     server = site(os.path.join(folder, "callers"))
     with server.serving():

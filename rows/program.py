@@ -230,9 +230,13 @@ def otherwise(site, log, wanted):
 
 
 def hurt(log, is_once):
-    """A log of three commits, damaged or cut in each frame, and what is told of it."""
+    """A log of three commits, damaged in its header, and damaged or cut in each frame, and what is
+    told of it.
+    """
     number, is_first = 0, True
     places, commits = chained(log)
+    # The size of a page, a salt and a sum of the header.
+    yield from ((flipped(log, it), SHUT) for it in (8, 16, 24))
     for place in places:
         is_torn = is_once and number > 0
         yield flipped(log, place + FRAME + 1_000), SIZES if is_torn and number == 2 else SHUT
@@ -244,8 +248,8 @@ def hurt(log, is_once):
 
 
 def frames(folder):
-    """Damage of each frame of a log is noticed, but with `--sync once` that of the last commit. So
-    is a cut in a commit, if that was synced before it was sealed.
+    """Damage of the header of a log and of each frame is noticed, but with `--sync once` that of
+    the last commit. So is a cut in a commit, if that was synced before it was sealed.
     """
     for how in ("twice", "once"):
         site = Site(folder, how)

@@ -64,11 +64,13 @@ FOUND = (SIZES[1] + "al: balance 300, vouchers 344, sessions 45\n"
 ASKED = f"forward --yes --at {LATE} --silent 60 --keep nas-8"
 GOING = ["open: nas-7 s2 of al, silent since 4000001"]
 CARRIED = [
-    ("forward", AHEAD), ("check --audit", balanced(3, 7, 4)),
+    ("forward --silent 60", AHEAD), ("check --audit", balanced(3, 7, 4)),
     ("forward --yes --at 9007199254740991", refused("forward: less than 30 days ago")),
     (f"{ASKED} --oldest-report 9999", refused("forward: less than --oldest-report ago")),
     (f"{ASKED} --oldest-report 60 --dry-run",
      forwarded(4, 2, 0, 1, 2, 0, verb="would carry", before=GOING)),
+    (f"{ASKED} --keep nas-9 --dry-run",
+     forwarded(3, 1, 0, 0, 4, 0, verb="would carry", before=GOING)),
     (ASKED, forwarded(3, 1, 0, 1, 2, 1, before=GOING)), ("check --audit", balanced(3, 6, 4)),
     (ASKED, forwarded(0, 0, 0, 1, 2, 1)),
     ("export balances", done(ACCOUNTS, "al,299,0", "bo,555,0", f"cy,{-OWED},{OWED}"))]

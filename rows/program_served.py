@@ -17,7 +17,7 @@ import sqlite3
 import subprocess
 import time
 
-from rows.program import ACCOUNTS, ADDED, DEFAULT, GOLD, MADE, SILVER, VOUCHER, Site, done
+from rows.program import ACCOUNTS, ADDED, DEFAULT, GOLD, HEADER, MADE, SILVER, VOUCHER, Site, done
 from served import CLIENT_AND_KEYS, FOREVER, GUEST, PLANS, PROGRAM, SECRET, check, is_response
 from served import signed, text_of, until, write
 
@@ -169,6 +169,7 @@ def in_place(name):
     write(name, "no folder")
 
 
+HOME_LOG = lambda it: os.path.join(os.path.dirname(it), "home/book-wal")
 # What is done with the names of a book, whether it is there then, and what is printed. Where a link
 # to itself leads cannot be told.
 DEEDS = {
@@ -179,17 +180,24 @@ DEEDS = {
             (lambda it: os.replace(it + ".kept", it + "-wal"), True, BACK)],
     "link": [(lambda it: led(it, "book"), True, None),
              (lambda it: led(it, "home/book"), True, None),
+             (lambda it: os.rename(HOME_LOG(it), HOME_LOG(it) + ".kept"), False, LOST),
+             (lambda it: os.replace(HOME_LOG(it) + ".kept", HOME_LOG(it)), True, BACK),
              (lambda it: in_place(os.path.join(os.path.dirname(it), "home")), False, LOST)]}
+
+
+def behind_link(site):
+    """Moves a book into a folder, and leads its name there."""
+    os.mkdir(site.at("home"))
+    for it in ("book", "book-wal"):
+        os.rename(site.at(it), site.at("home/" + it))
+    led(site.book, "home/book")
 
 
 def away(folder, name):
     """Nothing is answered while a name of the book, or of its log, leads elsewhere."""
     site = Live(folder, f"away-{name}")
     if name == "link":
-        os.mkdir(site.at("home"))
-        for it in ("book", "book-wal"):
-            os.rename(site.at(it), site.at("home/" + it))
-        led(site.book, "home/book")
+        behind_link(site)
     with site.serving("--quiet", "--status", site.at("s")):
         for number, (deed, is_there, line) in enumerate(DEEDS[name]):
             deed(site.book)
@@ -234,6 +242,46 @@ def long_files(folder, count):
               [str(count), "1000"])
 
 
+# A signal of a limit ends no server that is started so.
+UNSIGNALLED = {"preexec_fn": lambda: signal.signal(signal.SIGXFSZ, signal.SIG_IGN),
+               "restore_signals": False}
+
+
+def limit(site, most):
+    """Lets no file of a server grow to more octets."""
+    resource.prlimit(site.process.pid, resource.RLIMIT_FSIZE, (most, -1))
+
+
+def shown(folder):
+    """The counts show a configuration that is wrong, and right again; a book behind a link that is
+    away, and back; and when balances were written last that have no room since: they stay whole.
+    """
+    site, begun = Live(folder, "shown"), int(time.time())
+    path, home, counts = (site.at(it) for it in ("balances", "home/book", "s"))
+    site.comes(("import", done("added 1000, repeated 0, refused 0"),
+                HEADER + "".join(f"V-{it},a{it:03},7\n" for it in range(1_000))))
+    behind_link(site)
+    more = ["--quiet", "--status", counts, "--balances", path, "--balances-every", "1"]
+    site.start(FOREVER, more, **UNSIGNALLED)
+    limit(site, 8_192)
+    last, names = time.time(), [home, home + "~"]
+    for is_so, text in (("0", TEXTS[1][0]), ("1", SITE)):
+        write(site.config, text)
+        os.rename(*names)
+        names.reverse()
+        state = lambda: [values_of(counts).get(it) for it in ("config_is_current", "book_is_there")]
+        check(f"shown: {is_so}", site.stirred(lambda: state() == [is_so] * 2, 40), True)
+    found, sizes = values_of(counts), [os.path.getsize(home + it) for it in ("", "-wal")]
+    site.kill()
+    check("the sizes of its files", [int(found.get(f"{it}_octets", -1)) for it in ("book", "log")],
+          sizes)
+    moments = [int(found.get(f"{it}_time_seconds", 0)) for it in ("start", "balances")]
+    check("no moment is a later one", [begun <= it <= last for it in moments], [True] * 2)
+    rows = [ACCOUNTS, *(f"a{it:03},7,0" for it in range(1_000))]
+    check("the balances stay", (text_of(path).splitlines(), found.get("accounts")), (rows, "1000"))
+    check("which is told once", text_of(site.errors).count("balances: cannot write\n"), 1)
+
+
 def is_over(site):
     """Whether a server is at its end, which gets a report that it refuses, and a request."""
     with contextlib.suppress(OSError, http.client.HTTPException):
@@ -244,18 +292,17 @@ def is_over(site):
 
 def refusing(folder):
     """A book whose log cannot grow refuses every report: that ends the server."""
-    site, ignore = Live(folder, "refusing"), lambda: signal.signal(signal.SIGXFSZ, signal.SIG_IGN)
-    site.start(FOREVER, stderr=subprocess.PIPE, preexec_fn=ignore, restore_signals=False)
-    limit = lambda most: resource.prlimit(site.process.pid, resource.RLIMIT_FSIZE, (most, -1))
+    site = Live(folder, "refusing")
+    site.start(FOREVER, stderr=subprocess.PIPE, **UNSIGNALLED)
     found = [site.answers("s1")]
-    limit(64)
+    limit(site, 64)
     found.append(site.answers("s2", False))
-    limit(-1)
+    limit(site, -1)
     found.append(site.answers("s3"))
     site.stirred(lambda: False, 1)
     found.append(site.answers("s4"))
     check("it goes on where another report is recorded", found, [True, False, True, True])
-    limit(64)
+    limit(site, 64)
     check("it ends, whoever asks for pages", until(lambda: is_over(site)), True)
     status, said = site.end()
     told = site.process.stderr.read().splitlines()[-1]
@@ -343,7 +390,7 @@ def late(folder):
 
 PARTS = [(floods,), (alone,), (texts,), *((touches, it) for it in range(len(TOUCHES))),
          *((away, it) for it in DEEDS), (outages,), (long_files, 10_000), (long_files, 10_001),
-         (refusing,), (replaced,), (untold,), (late,)]
+         (shown,), (refusing,), (replaced,), (untold,), (late,)]
 
 
 def run(folder):

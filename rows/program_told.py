@@ -3,7 +3,7 @@
 import os
 
 from rows.program import DEFAULT, MADE, NO_BOOK, SHUT, SILVER, SIZES, UNREAD, Site, flipped
-from rows.program import log_of, refused
+from rows.program import done, log_of, refused
 from served import CLIENT_AND_KEYS, check, plan
 
 PLAN, CLIENT = "[[plan]];class='default';block=1;unit=0", "[[client]];name='a';address='1.2.3.4'"
@@ -45,6 +45,11 @@ WRONG = [
      f"name of this [[client]] is {RULES[0][1]}"),
     (f"{CLIENT};secret='s';;  [[ client ]] # b;name='a';address='1.2.3.5';secret='t'", 6,
      "this [[client]] has the name of the one at line 1"),
+    (f"{CLIENT};secret='s';[[client]];name='b';address='1.2.3.4';secret='t'", 5,
+     "this [[client]] has the address of the one at line 1"),
+    (f"{PLAN};[[key]];{TOKEN}account='a';[[key]];{TOKEN}account='b'", 8,
+     "this [[key]] has the token of the one at line 5"),
+    (f"{PLAN};[[withdrawn]];account='a'", 5, "this [[withdrawn]] has no until"),
     (f"{PLAN};[[key]];{TOKEN}", 5, "this [[key]] has none of account, cashier and logins"),
     (f"{PLAN};[[key]];{TOKEN}account='a';cashier=true", 5,
      "this [[key]] has more than one of account, cashier and logins"),
@@ -102,6 +107,9 @@ def configurations(folder):
 # Two clients and two keys, of which the second each has a value of the sample.
 SAMPLE = (f"{CLIENT};secret='xyzzy5462';[[client]];name='b';address='10.0.0.2';secret='xyzzy5461';"
           f"{PLAN};[[key]];{TOKEN}account='a';[[key]];token='cash-key-00000001';account='bo'")
+# The same in tables that no header begins.
+INLINE = ("client=[{name='b',address='10.0.0.2',secret='xyzzy5461'}];plan=[{class='default',"
+          "block=1,unit=0}];key=[{token='bo-key-0000000001',cashier=true}]")
 
 
 def samples(folder):
@@ -111,6 +119,10 @@ def samples(folder):
               f"warning: radacctd.toml line 16: the token of Key 1 {public} public\n")
     sizes = "ok: 2 clients, 1 plans, 2 keys\n"
     site.comes(("check - --explain", (0, sizes, wanted)), ("check -", (0, sizes, "")))
+    site.put("inline", INLINE.replace(";", "\n"))
+    site.comes(("check - --config inline --explain", (
+        0, "ok: 1 clients, 1 plans, 1 keys\n", f"warning: inline: the secret of client b {public} "
+        f"public\nwarning: inline: the token of Key 0 {public} public\n")))
 
 
 TO_DO = ": restore a copy, or give --lose-damaged-commits, which loses them"
@@ -186,7 +198,8 @@ PLANS = [
 def plans(folder):
     """Which plan differs from those that a book keeps, and how."""
     site = Site(folder, "plans", CLIENT_AND_KEYS + DEFAULT + PLANS[0][0])
-    site.comes(("init", MADE))
+    site.comes(("init", MADE), ("plans --list", done(
+        "class,block,unit,count", "default,1000000,5,both", "gold,1048576,10,out")))
     for text, told in PLANS:
         site.put("radacctd.toml", CLIENT_AND_KEYS + DEFAULT + text)
         wanted = f"db: PlansDiffer\nexplained: book: {told}\n" if told else ""

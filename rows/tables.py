@@ -52,6 +52,9 @@ REFUSED = [
         f"UPDATE price_plan SET block = 7 {OF_GOLD}", f"UPDATE price_plan SET unit = 11 {OF_GOLD}",
         f"UPDATE plan_count SET mode = 1 {OF_GOLD}", f"UPDATE plan_count SET mode = 2 {OF_GOLD}",
         f"DELETE FROM plan_count {OF_GOLD}", "INSERT INTO price_plan VALUES (x'626f', 1, 1)"]),
+    ("plans --list", 3, "PlansDiffer", [
+        f"UPDATE plan_count SET mode = 3 {OF_GOLD}", f"DELETE FROM plan_count {OF_GOLD}",
+        f"UPDATE price_plan SET block = 0 {OF_GOLD}"]),
     ("migrate", 3, "WrongSchema", [""]),
     ("migrate", 2, "WrongSchema", ["UPDATE meta SET value = 3"]),
     ("migrate", 2, "NotABook", [
@@ -106,7 +109,7 @@ def spoiled(folder):
         shutil.copyfile(whole, server.book)
         changed(server.book, OLDER[number], sql)
         before = content(server.book)
-        said = server.told(command)
+        said = server.told(*command.split())
         check(f"{command} of number {number}: {sql}", (said, content(server.book) == before),
               ((3, "", f"db: {fault}\n"), True))
 
@@ -129,6 +132,8 @@ def migrated(folder):
         write(server.config, CLIENT_AND_KEYS + two(count))
         check("and then what it counted", server.told("migrate"), (0, "schema 3\n", ""))
         check("the book is one of today, with the same rows", content(server.book), today)
+        check("its plans are listed", server.told("plans", "--list"), (
+            0, f"class,block,unit,count\ngold,1048576,10,{count}\ndefault,1000000,5,both\n", ""))
         check("and audited", server.told("check", "--audit"),
               (0, "ok: 1 clients, 2 plans, 2 keys\n"
                   "balanced: 2 accounts, 4 sessions, 1 vouchers\n", ""))
