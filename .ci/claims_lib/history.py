@@ -36,8 +36,9 @@ def number(text):
 
 
 def numbers(text):
-    # A seed is typed as it stands.
-    return re.sub(r"(?<!seed )\b\d{4,}(?:\.\d+)?", lambda it: number(it[0]), text)
+    # A seed and a date are typed as they stand.
+    large = r"(?<!seed )\b\d{4,}(?!-\d\d)(?:\.\d+)?"
+    return re.sub(large, lambda it: number(it[0]), text)
 
 
 def shown(row):
