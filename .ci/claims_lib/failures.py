@@ -8,9 +8,10 @@ from claims_lib.openers import is_of_program
 from claims_lib.tree import text_of, without_comments
 
 WORD = (
-    r"(?:(?:Unavailable|NoMemory|Memory|AllocError|CannotRead|Unreadable|Mute|Fault|OutOfMemory|Trouble"
+    r"(?:(?:Unavailable|NoMemory|Memory|AllocError|CannotRead|Unreadable|Mute|Fault|OutOfMemory"
+    r"|Trouble|Refused|WriteFault|ReadFault::\w+|Stopped::\w+|fmt::Error|ErrorKind::\w+"
     # Who asks for too much gets no memory.
-    r"|io::Error::\w+|with_capacity|reserve\w*)\b|vec!\[in \w+;[^;\]]*;)"
+    r"|io::Error::\w+|with_capacity|reserve\w*|resize\w*|try_resize\w*)\b|vec!\[in \w+;[^;\]]*;)"
 )
 # One more name would hide a failure.
 RENAMED = re.compile(rf"\b{WORD} as (?!OutOfMemory|Trouble)(\w+)"

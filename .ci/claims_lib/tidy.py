@@ -2,18 +2,21 @@
 
 tidy.csv has the most of each: more than 7 parameters of functions and definitions, not of lemmas;
 bodies above 40 lines, also of lemmas; clauses above 10 lines; lines above 100 columns; comments of
-sources that are no full sentence; words of comments in British spelling, and private ones.
+sources that are no full sentence; words of comments in British spelling, and private ones; private
+functions of the product without a clause, but for methods of a trait, whose clauses are the trait's.
 """
 
 import csv
 import os
 import re
 
+from claims_lib.openers import is_of_program
 from claims_lib.tree import ROOT, text_of
 
 LIMITS, PARAMETERS, BODY, CLAUSE, COLUMNS = ".ci/claims_lib/tidy.csv", 7, 40, 10, 100
 FUNCTION = re.compile(r"^( *)(?:pub(?:\([a-z]+\))? )?(?:const )?fn \w+(?:<[^(]*>)?\(", re.M)
 CONTRACT = re.compile(r"^ *(?:ensures|requires)(?: \w+)? \{", re.M)
+UNCLAIMED = re.compile(r"^impl[^{]* for |^(?:pub )?trait |^impl|^( *)(pub )?(?:const )?fn \w+", re.M)
 DEFINED = (r"^( *)(?:pub )?((?:abbrev|unfoldable|record|data) (?!\{))*"
            r"(?:pub )?(?(2)\S|[^\s(){}:]+ :\s)")
 # Comments of a kind of file begin so. A list of tests or options has some that are a few words.
@@ -57,6 +60,21 @@ def in_code(text):
             yield "clauses", head.start()
 
 
+def unclaimed_in(text):
+    """The private functions without a clause, by their place."""
+    heads = list(UNCLAIMED.finditer(text))
+    is_of_trait = False
+    for head, after in zip(heads, [*heads[1:], None]):
+        if head[1] is None:
+            is_of_trait = not re.fullmatch("impl", head[0])
+            continue
+        whole = text[head.end() : after.start() if after else len(text)]
+        contract = re.split(rf"(?m)^{head[1]}\{{$| \{{$", whole)[0]
+        is_own = not head[2] and not (is_of_trait and head[1])
+        if is_own and not re.search(r"\bensures\b", contract):
+            yield "unclaimed", head.start()
+
+
 def in_definitions(text):
     """What is too long in a file of definitions or proofs, by its place."""
     heads = list(re.finditer(DEFINED, text, re.M))
@@ -94,7 +112,8 @@ def counts_of(tree):
     for path in (it for it in tree.files if re.match(r"crates/.*\.(?:rt|antt)$", it)):
         text = text_of(path)
         long = in_code(text) if path.endswith(".rt") else in_definitions(text)
-        for kind, at in (*long, *in_comments(text, COMMENT[os.path.splitext(path)[1]])):
+        own = unclaimed_in(text) if is_of_program(path) else ()
+        for kind, at in (*long, *own, *in_comments(text, COMMENT[os.path.splitext(path)[1]])):
             found[kind].append((path, text.count("\n", 0, at) + 1))
         sizes = enumerate(map(len, text.split("\n")), 1)
         found["lines"] += [(path, line) for line, size in sizes if size > COLUMNS]

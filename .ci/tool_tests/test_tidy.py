@@ -30,5 +30,36 @@ class Comments(unittest.TestCase):
         self.assertLessEqual({"sentences", *tidy.WORDS}, bounds)
 
 
+class Unclaimed(unittest.TestCase):
+    SOURCE = """fn bare(a: u8) -> u8 {
+    a
+}
+
+fn held(a: u8) -> u8
+    ensures { result ≡ a }
+{
+    a
+}
+
+pub fn public() {}
+
+impl Kept {
+    fn inner(&self) {
+    }
+}
+
+impl Drop for Kept {
+    fn drop(self) {
+    }
+}
+"""
+
+    def test_private_functions_without_a_clause(self):
+        """A method of a trait has the clauses of the trait."""
+        found = [self.SOURCE[at:].split("(")[0].split()[-1]
+                 for _, at in tidy.unclaimed_in(self.SOURCE)]
+        self.assertEqual(found, ["bare", "inner"])
+
+
 if __name__ == "__main__":
     unittest.main()
