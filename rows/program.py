@@ -137,8 +137,8 @@ def life(folder):
     site.stays(*LOOKS, ("export --config more balances", balances))
 
 
-TAKING = ["check", "import", "export topups", "serve --turns 1", "migrate", "plans", "plans --list",
-          "forward"]
+TAKING = ["check", "check --audit", "import", "export topups", "serve --turns 1", "migrate", "plans",
+          "plans --list", "forward", "forward --before 30 --yes"]
 # What is in the place of a book, and of its log.
 SLIPS = [(None, None, SHUT), (b"\7", None, SHUT), (bytes(99), None, SHUT), (b"", bytes(33), SHUT),
          (b"", None, NO_BOOK)]
@@ -161,7 +161,8 @@ TAKEN = [
     "import --lose-damaged-commits", "key --until 1 " + "%61" * 253,
     "migrate --lose-damaged-commits", "plans --lose-damaged-commits --list",
     "forward --before 30 --keep x --lose-damaged-commits",
-    "serve --balances d --balances-every 86400 --oldest-report 1 --radius-port 65535 --desk-port 1"]
+    "serve --balances d --balances-every 86400 --oldest-report 1 --radius-port 65535 --desk-port 1",
+    *("serve" + " --bind 127.0.0.1" * it for it in range(1, 17))]
 # Lines that are not, and what --explain tells.
 NOT_TAKEN = [
     ("serve --sync thrice", "--sync takes once or twice"), ("serve" + " --bind 1" * 17, None),
