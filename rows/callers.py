@@ -92,6 +92,12 @@ def stopped(server):
     server.process.send_signal(signal.SIGCONT)
 
 
+def alone(client, port, place, octets):
+    """Where the reply to a datagram comes from, while nothing else is sent."""
+    client.sendto(octets, (place, port))
+    return client.recvfrom(4_096)[1][0]
+
+
 def addresses(folder):
     """Replies leave from the address that was asked, and no address waits for two of another."""
     server = site(folder)
@@ -108,6 +114,8 @@ def addresses(folder):
               [(at, (places[at // 5], server.radius), True) for at in range(80)])
         order = [source for _, source in got]
         check("in turns", [it for it, after in zip(order, order[1:]) if it == after], [])
+        quiet = [alone(client, server.radius, it, sent[0]) for it in reversed(places)]
+        check("each address is heard alone", quiet, places[::-1])
         check("the desk has an address of its own",
               page(taken(caller(server, request(), "127.0.0.99"))), page_of("room 12"))
 
@@ -253,6 +261,16 @@ def pieces(server):
     check("and others meanwhile", [it for it in others if it != page_of("guest-100")], [])
 
 
+def lengths(server):
+    """A request of each length up to 1,300 octets is answered."""
+    wrong, bare = [], request()[:-2] + b"Pad: \r\n\r\n"
+    for size in range(1_301 - len(bare)):
+        padded = bare.replace(b"Pad: ", b"Pad: " + b"x" * size)
+        if page(taken(caller(server, padded))) != page_of("room 12"):
+            wrong.append(len(padded))
+    check("a request of each length", wrong, [])
+
+
 def longest(server):
     """Heads of 8,192 octets and bodies of 4,096 are the longest that are read."""
     for at, (head, body) in enumerate([
@@ -286,7 +304,7 @@ def slow(folder):
                   (200, [f"{it:060}" for it in range(many)], True))
 
 
-PARTS = [very_many, datagrams, turns, crowd, silent, closing, pieces, longest]
+PARTS = [lengths, very_many, datagrams, turns, crowd, silent, closing, pieces, longest]
 
 
 def run(folder):
