@@ -1,12 +1,11 @@
 """What a browser prints: codes that a phone scans, and pages for a file with the style in them."""
 
-import segno
-
 from radacctd_site.core import web
 
 
 def qr(text, border=1):
     """A picture (SVG) of a text for a phone, which reads it from a dark page if the border is 4."""
+    import segno
     return segno.make(text, micro=False).svg_inline(border=border, light="#fff", omitsize=True,
                                                     svgclass=None, lineclass=None)
 

@@ -7,8 +7,8 @@ page may use the codes. What is left on a login that ended stays on its account.
 
 import datetime
 
-from radacctd_site.core import Failed, acts, cli, codes, moment, money, names, paper, places, store
-from radacctd_site.packages import logins, packages, pages
+from radacctd_site.core import Failed, acts, cli, codes, moment, money, names, places, store
+from radacctd_site.packages import logins, packages
 
 COLUMNS = ("account", "package", "state", "sum", "sheet", "who", "made")
 
@@ -45,7 +45,7 @@ def make(db, book, key, words):
     logins.make(db, book, made)
     what = sheet or made[0].account
     print(f"{count} of {package.name}, {worth} each. To print: radacctl code print '{what}', or "
-          f"/packages/{pages.quoted(what)}")
+          f"/packages/{logins.quoted(what)}")
     if not sheet:
         print(f"{made[0].account}, password {made[0].secret}" if words.name else made[0].secret)
     wait = sum(it["state"] != logins.LIVE for it in logins.named(db, what))
@@ -89,6 +89,9 @@ def main(words):
             show(db, words.what)
         elif words.act == "print":
             found = found_by(db, words.what)
+            # Only who prints needs what pages are made with: the package suggests it.
+            from radacctd_site.core import paper
+            from radacctd_site.packages import pages
             print(paper.page("packages/cards.html", pages.values(db, words.what, found)))
         else:
             end(db, words)

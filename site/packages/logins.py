@@ -9,12 +9,14 @@ import hashlib
 import os
 import sys
 import time
+import urllib.parse
 
 from radacctd_site.core import Failed, accounts, acts, codes, desk, names
 from radacctd_site.core.acts import Act
 from radacctd_site.packages import packages, users
 
 KIND, MOST = "code", 1000
+quoted = lambda text: urllib.parse.quote(text, safe="")
 # What codes are digested with, as FreeRADIUS does it: front.code_key.
 KEY = os.path.join(os.environ.get("CREDENTIALS_DIRECTORY", "/etc"), "radacctd-codes.key")
 LIVE, WAITING, REFUSED, ENDED = STATES = ("live", "waiting", "refused", "ended")

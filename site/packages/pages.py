@@ -1,7 +1,5 @@
 """The staff's pages of packages: a code or a name is sold and shown, and one is ended."""
 
-import urllib.parse
-
 from radacctd_site.core import Failed, accounts, codes, places, web
 from radacctd_site.core.features import OPERATOR
 from radacctd_site.packages import logins, packages
@@ -14,7 +12,7 @@ def form(visit, said="", kind="success", status=200):
     """An operator sees all of the last logins, a cashier those that they sold."""
     where = ("true",) if visit.role == OPERATOR else ("who = ?", visit.name)
     return visit.page("packages/packages.html", status, code=codes.new(), terms=packages.terms,
-                      packages=packages.sold(visit.db), quoted=quoted, said=said, kind=kind,
+                      packages=packages.sold(visit.db), quoted=logins.quoted, said=said, kind=kind,
                       logins=list(logins.listed(visit.db, *where, most=LINES)))
 
 
@@ -36,7 +34,7 @@ def make(visit):
         return form(visit, why, "danger", 422)
     made = logins.drawn(logins.key(), package, code, visit.name, name)
     logins.make(visit.db, places.book(), [made])
-    return web.lead(f"/packages/{quoted(made.account)}")
+    return web.lead(f"/packages/{logins.quoted(made.account)}")
 
 
 def end(visit):
@@ -54,10 +52,6 @@ def end(visit):
             no=visit.text("Keep it"), back="/packages/")
     logins.end(visit.db, [it["account"]])
     return form(visit, visit.text("%(account)s has ended.", account=it["account"]))
-
-
-def quoted(what):
-    return urllib.parse.quote(what, safe="")
 
 
 def values(db, what, found, text=accounts.plain):

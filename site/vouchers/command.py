@@ -4,8 +4,8 @@ A sheet is a page: print it at https://HOST/vouchers/SHEET, or write it by `prin
 a browser prints. A withdrawn code stays so, also if an older site.db is put back: the book has it.
 """
 
-from radacctd_site.core import Failed, cli, money, names, paper, places, store
-from radacctd_site.vouchers import pages, vouchers
+from radacctd_site.core import Failed, cli, money, names, places, store
+from radacctd_site.vouchers import vouchers
 
 
 def arguments(it):
@@ -69,6 +69,8 @@ def main(words):
         elif words.act == "list":
             show(db, words.sheet)
         elif words.act == "print":
+            from radacctd_site.core import paper
+            from radacctd_site.vouchers import pages
             print(paper.page("vouchers/sheet.html", pages.values(db, words.sheet)))
         else:
             withdraw(db, book, words)
