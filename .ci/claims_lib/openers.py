@@ -14,6 +14,7 @@ from claims_lib.tree import FOR_TESTS, text_of, without_comments
 
 READS = "crates/acct_reads/src/lib.rt"
 JOBS = "crates/acct_program_jobs/src/"
+SQL_TABLES = "crates/acct_sql_tables/src/"
 COMMANDS = "crates/acct_program_commands/src/"
 CHANGES = COMMANDS + "file_changes.rt"
 MAIN = "crates/radacctd/src/main.rt"
@@ -81,7 +82,7 @@ RULES = (
     ),
 )
 # A proof that unfolds one of these says of a file whatever it likes.
-SEALED = re.compile(r"\bunfolding\b[^\n]*\b(?:Was(?:Opened|Put|Read|Sent)|LeadsTo)\b")
+SEALED = re.compile(r"\bunfolding\b[^\n]*\b(?:Was(?:Asked|Opened|Put|Read|Sent)|LeadsTo)\b")
 
 # How many calls of some kinds stand in each source: no second one, and none elsewhere. A clause says
 # what is bound, put or sent, and of none that nothing else is.
@@ -136,11 +137,26 @@ COUNTED = (
         re.compile(r"\bopen_(?:from|files_with)\("),
         {JOBS + "database.rt": 2},
     ),
+    (
+        "reads of a column of a row",
+        re.compile(r"\bcolumns\.get\(|(?<!fn )\b\w+_at\((?:alloc, )?columns\b"),
+        {
+            SQL_TABLES + "columns.rt": 31,
+            SQL_TABLES + "listing.rt": 2,
+            SQL_TABLES + "queries.rt": 2,
+            SQL_TABLES + "session_classes.rt": 4,
+        },
+    ),
+    (
+        "names of a way to make a book",
+        re.compile(r"\bMaking::\w+"),
+        {JOBS + "command.rt": 3, JOBS + "database.rt": 6, JOBS + "making.rt": 7},
+    ),
 )
 # What is known of files and of sent octets is sealed in these, once each.
-SEALS = re.compile(r"^(\w+ pub) (?:Was(?:Opened|Put|Read|Sent)|LeadsTo)\b", re.M)
+SEALS = re.compile(r"^(\w+ pub) (?:Was(?:Asked|Opened|Put|Read|Sent)|LeadsTo)\b", re.M)
 # How often each source unfolds one.
-UNFOLDS = {CHANGES: 1, COMMANDS + "config_file.rt": 1, READS: 3, DATAGRAMS: 1}
+UNFOLDS = {CHANGES: 1, COMMANDS + "config_file.rt": 1, READS: 4, DATAGRAMS: 1}
 
 # What a source may name of std where files and processes are. Else all of it is only for the two.
 SYSTEM = re.compile(r"std(?:$| |::\*|::(?:fs|rt|process|os)\b)")
@@ -162,7 +178,7 @@ GIVEN = {
     JOBS + "audit_job.rt": "audit_book audited_from",
     JOBS + "checking.rt": "check check_or_audit check_files check_book checked_from",
     JOBS + "command.rt": "carry_out do_book_job serve_files export exported",
-    JOBS + "database.rt": "made adopted listed opened opened_anew emptied",
+    JOBS + "database.rt": "made adopted listed opened opened_for opened_anew emptied",
     JOBS + "making.rt": "make made_and_closed",
     JOBS + "plans_job.rt": "list_plans listed_from",
     JOBS + "work.rt": "over work_on",
@@ -209,8 +225,7 @@ BY_EYE = (
     (COMMANDS + "kept_names.rt", "is_foreign", "a file that is none of these is foreign"),
     (COMMANDS + "gauges.rt", "note_config", "what is noted is what is shown"),
     (COMMANDS + "gauges.rt", "note_away", "so is this"),
-    (COMMANDS + "counted_lines.rt", "accounts", "as many lines passed, without the header"),
-    (COMMANDS + "counted_lines.rt", "overdrawn", "as many of them are below 0"),
+    (COMMANDS + "counted_lines.rt", "overdrawn", "as many lines passed of accounts below 0"),
     (COMMANDS + "shared.rt", "write", "each text that it is given is written"),
 )
 MOST_BY_EYE = 293
@@ -318,7 +333,7 @@ def check_by_eye(checker):
 def check_sealed(checker):
     """What is known of a file comes from the functions that a person reads, once from each."""
     for path, count in UNFOLDS.items():
-        if len(re.findall(r"\b(?:Puts|Seen|Sent)::\w+\)", text_of(path))) != count:
+        if len(re.findall(r"\b(?:Puts|Seen|Sent)::\w+", text_of(path))) != count:
             checker.page = path
             checker.find(1, f"it unfolds what is known of a file other than {count} times")
     seals = []
@@ -329,8 +344,9 @@ def check_sealed(checker):
             if SEALED.search(text):
                 checker.page = path
                 checker.find(1, "its proof unfolds what is known of a file")
-    if seals != ["unfoldable pub"] * 5:
-        checker.find(1, f"what was put, read, opened, led to and sent is sealed once each: {seals}")
+    if seals != ["unfoldable pub"] * 6:
+        said = "what was put, read, opened, asked, led to and sent is sealed once each"
+        checker.find(1, f"{said}: {seals}")
 
 
 def check(checker):

@@ -68,8 +68,7 @@ class Followed(unittest.TestCase):
     @unittest.skipUnless(shutil.which("sqlite3"), "no sqlite3")
     def test_users_are_imported_and_removed(self):
         front = blocks_of(text_of("../site/front/README"))
-        put, remove = [textwrap.dedent(it.text) for it in front
-                       if it.text.startswith("    runuser ")]
+        put, remove = [textwrap.dedent(it.text) for it in front if "runuser " in it.text]
         with tempfile.TemporaryDirectory() as folder, \
                 sqlite3.connect(f"{folder}/users.db") as users:
             for table, columns in (("radcheck", "username, attribute, op, value"),
@@ -79,7 +78,7 @@ class Followed(unittest.TestCase):
                 file.write('al,secret,fast\n"Müller b","1, 2",fast\nbo,other,\n')
             for command, there in ((put, ["al", "Müller b", "bo"]),
                                    (remove.partition("\necho ")[0], ["Müller b", "bo"])):
-                command = command.replace("runuser -u radacctd-site -- ", "")
+                command = re.sub("(setsid --wait )?runuser -u radacctd-site -- ", "", command)
                 command = command.replace("/var/lib/radacctd-site/", "")
                 subprocess.run(["sh", "-ec", command], cwd=folder, check=True)
                 rows = users.execute("SELECT * FROM radcheck JOIN radusergroup USING (username)")

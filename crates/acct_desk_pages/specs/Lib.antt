@@ -2,3 +2,4 @@ pub mod Responses
 pub mod Bodies
 pub mod Logins
 pub mod Overdrawn
+pub mod SessionNames

@@ -5,3 +5,4 @@ pub mod bodies;
 pub mod json_response;
 pub mod login;
 pub mod overdrawn;
+mod session_names;

@@ -1,11 +1,11 @@
 -- The text that is written on a walk, and what it says of the whole content.
 use Rattle.std.proofs.Common.{◌≡◌, ℕ, List, [], ◌∷◌, ◌++◌, Option, Some, None, Result, Ok, Err}
 use Rattle.std.proofs.Common.{map, refl, sym, ◌∙◌, ap, subst, append_assoc}
-use Rattle.std.specs.Prelude.{flat_map, IfOk}
+use Rattle.std.specs.Prelude.{flat_map, length, IfOk}
 use Rattle.std.specs.Io.KnownBytes.{Appends, Keeps}
 use Rattle.std.specs.declared.cmp.Ordering.{Ordering}
 use Rattle.std.proofs.lemmas.Grind.{flat_map-append}
-use Rattle.std.proofs.lemmas.List.{append-nil}
+use Rattle.std.proofs.lemmas.List.{append-nil, length-map}
 use Rattle.acct_book.specs.Walk.{AreAllPast, IsNext, IsWalk}
 use Rattle.acct_book.specs.Meets.{Meets}
 use Rattle.acct_book.proofs.Walking.{walk_of}
@@ -60,24 +60,27 @@ module _ {J K M X : Type 0} (cmp : K → K → Ordering) (at : K → Option X)
     → IsNext cmp at (shown after) (Some (key m, value m)))
     (ends : (after : Option J) → next after None → IsNext cmp at (shown after) None)
     (goes_on : (m : M) → shown (Some (key_of m)) ≡ Some (key m)) where
-  -- what was written of the members was written of the whole content
-  pub exported : {W E : Type 0} (contents : W → Option (List ℕ)) (is_open : Type 0)
+  -- what was written of the members was written of the whole content, and there are as many
+  pub exported : {W E : Type 0} (contents : W → Option (List ℕ)) (count : W → ℕ) (is_open : Type 0)
       (from : Option (List ℕ)) (header : Fields) (text : K × X → List ℕ)
       → ((entries : List (K × X)) → IsWalk cmp at None entries → AreAllPast cmp at None entries)
       → shown None ≡ None → (result : Result W E)
       → IfOk result (λ w. (members : List M)
       × Appends from (contents w) (export_text header (λ m. text (key m, value m)) members)
+      × (length members ≡ count w)
       × (is_open → Meets next key_of None members))
       → IfOk result (λ w. (entries : List (K × X))
       × Appends from (contents w) (export_text header text entries)
+      × (length entries ≡ count w)
       × (is_open → AreAllPast cmp at None entries))
-  exported contents is_open from header text all starts result wrote =
+  exported contents count is_open from header text all starts result wrote =
       let entry : M → K × X = λ m. (key m, value m) in
       if_ok result _ _ (λ w told. (
         map entry told.0,
         subst (λ t. Appends from (contents w) (line header ++ t)) (texts_of text entry told.0)
             told.1,
+        length-map told.0 entry ∙ told.2,
         λ opens. all (map entry told.0) (subst (λ a. IsWalk cmp at a (map entry told.0)) starts
             (walk_of cmp at next key_of shown entry finds ends goes_on None told.0
-            (told.2 opens))),
+            (told.3 opens))),
       )) wrote

@@ -1,5 +1,5 @@
 //! The exports of accounts: their balances, and their overdrafts.
-ghost use Rattle.std.specs.Prelude.{◌≡◌, [], ◌∷◌, ℕ, ℤ, List, None, IfOk, OnOk, option_map};
+ghost use Rattle.std.specs.Prelude.{◌≡◌, [], ◌∷◌, ℕ, ℤ, List, None, IfOk, OnOk, length, option_map};
 ghost use Rattle.std.specs.Io.KnownBytes.{Appends};
 ghost use Rattle.csv.specs.Writing.{text_written};
 ghost use Rattle.acct_book.specs.Step.{Looks};
@@ -25,7 +25,7 @@ pub enum AccountExport {
 }
 
 /// Writes `account,balance,overrun` and a line for each account, in the order of the accounts. It
-/// holds one account at a time.
+/// holds one account at a time. Returns the writer, and how many accounts there are.
 ///
 /// # Errors
 ///
@@ -35,20 +35,22 @@ pub fn export_balances<B: Book, W: Write + Drop>(
     alloc: Global,
     book: &mut B,
     writer: W,
-) -> Result<W, ExportError>
+) -> Result<(W, u64), ExportError>
     ensures reads { Looks B.Book
         book.old book.new result }
-    ensures text { IfOk result (λ w. (entries : List (List ℕ × ℤ))
-        × Appends (W.contents writer) (W.contents w)
+    ensures text { IfOk result (λ done. (entries : List (List ℕ × ℤ))
+        × Appends (W.contents writer) (W.contents done.0)
         (export_text (account_header AccountExport.Balances)
         (λ e. account_line AccountExport.Balances e.0 e.1) entries)
+        × (length entries ≡ done.1)
         × (B.is_open book.new → AreAllPast octets_cmp (B.content book.old).balances None entries)) }
 {
     export_accounts(alloc, book, writer, AccountExport::Balances)
 }
 
 /// Writes `account,overrun` and a line for each account whose balance is below 0, in the order of
-/// the accounts. It holds one account at a time.
+/// the accounts. It holds one account at a time. Returns the writer, and how many accounts there
+/// are, whatever their balance.
 ///
 /// # Errors
 ///
@@ -58,29 +60,32 @@ pub fn export_overruns<B: Book, W: Write + Drop>(
     alloc: Global,
     book: &mut B,
     writer: W,
-) -> Result<W, ExportError>
+) -> Result<(W, u64), ExportError>
     ensures reads { Looks B.Book
         book.old book.new result }
-    ensures text { IfOk result (λ w. (entries : List (List ℕ × ℤ))
-        × Appends (W.contents writer) (W.contents w)
+    ensures text { IfOk result (λ done. (entries : List (List ℕ × ℤ))
+        × Appends (W.contents writer) (W.contents done.0)
         (export_text (account_header AccountExport.Overruns)
         (λ e. account_line AccountExport.Overruns e.0 e.1) entries)
+        × (length entries ≡ done.1)
         × (B.is_open book.new → AreAllPast octets_cmp (B.content book.old).balances None entries)) }
 {
     export_accounts(alloc, book, writer, AccountExport::Overruns)
 }
 
+// Writes the header, and what it has for each account. Returns the writer, and how many there are.
 fn export_accounts<B: Book, W: Write + Drop>(
     alloc: Global,
     book: &mut B,
     writer: W,
     what: AccountExport,
-) -> Result<W, ExportError>
+) -> Result<(W, u64), ExportError>
     ensures reads { Looks B.Book
         book.old book.new result }
-    ensures text { IfOk result (λ w. (entries : List (List ℕ × ℤ))
-        × Appends (W.contents writer) (W.contents w)
+    ensures text { IfOk result (λ done. (entries : List (List ℕ × ℤ))
+        × Appends (W.contents writer) (W.contents done.0)
         (export_text (account_header what) (λ e. account_line what e.0 e.1) entries)
+        × (length entries ≡ done.1)
         × (B.is_open book.new → AreAllPast octets_cmp (B.content book.old).balances None entries)) }
 {
     write_members(alloc, book, &what, writer)

@@ -1,5 +1,6 @@
 //! The export of sessions.
-ghost use Rattle.std.specs.Prelude.{◌≡◌, ◌++◌, [], ◌∷◌, ℕ, List, None, IfOk, OnOk, map, option_map};
+ghost use Rattle.std.specs.Prelude.{◌≡◌, ◌++◌, [], ◌∷◌, ℕ, List, None, IfOk, OnOk, length, map};
+ghost use Rattle.std.specs.Prelude.{option_map};
 ghost use Rattle.std.specs.Io.KnownBytes.{Appends};
 ghost use Rattle.csv.specs.Records.{fields_of, partial_of};
 ghost use Rattle.csv.specs.Writing.{text_written};
@@ -23,7 +24,7 @@ use std::io::Write;
 
 /// Writes a header and a line for each session, in the order of their keys. A line has the
 /// session's names, its octets and their price under these plans, its moments, and how it ended.
-/// The export holds one session at a time.
+/// The export holds one session at a time. Returns the writer, and how many sessions there are.
 ///
 /// # Errors
 ///
@@ -34,12 +35,13 @@ pub fn export_sessions<B: Book, W: Write + Drop>(
     book: &mut B,
     plans: &Plans,
     writer: W,
-) -> Result<W, ExportError>
+) -> Result<(W, u64), ExportError>
     ensures reads { Looks B.Book
         book.old book.new result }
-    ensures text { IfOk result (λ w. (entries : List (Key × RowFacts))
-        × Appends (W.contents writer) (W.contents w)
+    ensures text { IfOk result (λ done. (entries : List (Key × RowFacts))
+        × Appends (W.contents writer) (W.contents done.0)
         (export_text session_header (λ e. line (session_fields plans.now e.1)) entries)
+        × (length entries ≡ done.1)
         × (B.is_open book.new → AreAllPast key_cmp (B.content book.old).rows None entries)) }
 {
     write_members(alloc, book, &SessionExport { plans }, writer)

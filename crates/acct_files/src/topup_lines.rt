@@ -1,5 +1,5 @@
 //! The export of top-ups.
-ghost use Rattle.std.specs.Prelude.{◌≡◌, ℕ, List, None, IfOk, OnOk, map, option_map};
+ghost use Rattle.std.specs.Prelude.{◌≡◌, ℕ, List, None, IfOk, OnOk, length, map, option_map};
 ghost use Rattle.std.specs.Io.KnownBytes.{Appends};
 ghost use Rattle.csv.specs.Writing.{text_written};
 ghost use Rattle.acct_model.specs.Vouchers.{TopUpFacts};
@@ -18,7 +18,7 @@ use std::alloc::Global;
 use std::io::Write;
 
 /// Writes `voucher,account,sum,when` and a line for each voucher, in the order of their numbers. It
-/// holds one top-up at a time.
+/// holds one top-up at a time. Returns the writer, and how many top-ups there are.
 ///
 /// # Errors
 ///
@@ -28,12 +28,13 @@ pub fn export_topups<B: Book, W: Write + Drop>(
     alloc: Global,
     book: &mut B,
     writer: W,
-) -> Result<W, ExportError>
+) -> Result<(W, u64), ExportError>
     ensures reads { Looks B.Book
         book.old book.new result }
-    ensures text { IfOk result (λ w. (entries : List (List ℕ × TopUpFacts))
-        × Appends (W.contents writer) (W.contents w)
+    ensures text { IfOk result (λ done. (entries : List (List ℕ × TopUpFacts))
+        × Appends (W.contents writer) (W.contents done.0)
         (export_text topup_header (λ e. line (topup_fields e.1)) entries)
+        × (length entries ≡ done.1)
         × (B.is_open book.new
         → AreAllPast octets_cmp (B.content book.old).topups None entries)) }
 {

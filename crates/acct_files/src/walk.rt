@@ -1,5 +1,5 @@
 //! The walk over the members of a book that an export writes.
-ghost use Rattle.std.specs.Prelude.{◌≡◌, ℕ, List, Option, None, IfOk, OnOk, flat_map};
+ghost use Rattle.std.specs.Prelude.{◌≡◌, ℕ, List, Option, None, IfOk, OnOk, flat_map, length};
 ghost use Rattle.std.specs.Io.KnownBytes.{Appends};
 ghost use Rattle.csv.specs.Writing.{text_written};
 ghost use Rattle.acct_book.specs.Content.{Content};
@@ -68,7 +68,7 @@ pub(crate) trait Export {
 }
 
 /// Writes the header, and then the text for each member of the book, in the order of their keys. It
-/// holds one member at a time.
+/// holds one member at a time. Returns the writer, and how many members there are.
 ///
 /// # Errors
 ///
@@ -79,46 +79,52 @@ pub(crate) fn write_members<X: Export, B: Book, W: Write + Drop>(
     book: &mut B,
     export: &X,
     writer: W,
-) -> Result<W, ExportError>
+) -> Result<(W, u64), ExportError>
     ensures reads { Looks B.Book book.old book.new result }
-    ensures text { IfOk result (λ w. (members : List X.Member)
-        × Appends (W.contents writer) (W.contents w)
+    ensures text { IfOk result (λ done. (members : List X.Member)
+        × Appends (W.contents writer) (W.contents done.0)
         (export_text (X.header export.now) (X.text_of export.now) members)
+        × (length members ≡ done.1)
         × (B.is_open book.new
         → Meets (X.is_next (B.content book.old)) X.key_of None members)) }
 {
     let mut lines = export.begin(writer)?;
     let mut fields = ByteRecord::new(alloc);
-    write_each(alloc, book, export, &mut lines, &mut fields)?;
-    finish(lines)
+    let count = write_each(alloc, book, export, &mut lines, &mut fields)?;
+    match finish(lines) {
+        Ok(writer) => Ok((writer, count)),
+        Err(error) => Err(error),
+    }
 }
 
-// Writes the text for each member, to a writer that has written the header.
+// Writes the text for each member, to a writer that has written the header. Returns how many there
+// are.
 fn write_each<X: Export, B: Book, W: Write + Drop>(
     alloc: Global,
     book: &mut B,
     export: &X,
     lines: &mut Writer<W>,
     fields: &mut ByteRecord,
-) -> Result<(), ExportError>
+) -> Result<u64, ExportError>
     requires { IsBetweenLines lines.old }
     ensures reads { Looks B.Book book.old book.new result }
-    ensures text { OnOk result ((members : List X.Member)
+    ensures text { IfOk result (λ count. (members : List X.Member)
         × Appends (text_written W.contents lines.old) (text_written W.contents lines.new)
         (flat_map (X.text_of export.now) members)
+        × (length members ≡ count)
         × (B.is_open book.new
         → Meets (X.is_next (B.content book.old)) X.key_of None members)) }
 {
     let mut after: Option<X::Key> = None;
-    for _ in 0..WALK_LIMIT {
+    for count in 0..WALK_LIMIT {
         let Some(member) = X::next(book, &after)? else {
-            return Ok(());
+            return Ok(count);
         };
         export.write(alloc, lines, fields, &member)?;
         after = Some(X::into_key(member));
     }
     match X::next(book, &after)? {
         Some(_) => Err(ExportError::Unavailable),
-        None => Ok(()),
+        None => Ok(WALK_LIMIT),
     }
 }

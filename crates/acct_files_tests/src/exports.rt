@@ -116,13 +116,14 @@ fn write(
     export: Export,
     writer: Comparing,
 ) -> Result<Comparing, ExportError> {
-    match export {
-        Export::Sessions => export_sessions(alloc, book, plans, writer),
-        Export::Balances => export_balances(alloc, book, writer),
-        Export::TopUps => export_topups(alloc, book, writer),
-        Export::Overruns => export_overruns(alloc, book, writer),
-        Export::Plans => export_plans(alloc, plans.list(), writer),
-    }
+    let (writer, _) = match export {
+        Export::Sessions => export_sessions(alloc, book, plans, writer)?,
+        Export::Balances => export_balances(alloc, book, writer)?,
+        Export::TopUps => export_topups(alloc, book, writer)?,
+        Export::Overruns => export_overruns(alloc, book, writer)?,
+        Export::Plans => (export_plans(alloc, plans.list(), writer)?, 0),
+    };
+    Ok(writer)
 }
 
 // How an export ends with so many writes, over a book that refuses this call: an error, or whether

@@ -10,7 +10,8 @@ ghost use Rattle.std.specs.Prelude.{OnOk};
 ghost use Rattle.std.specs.Prelude.{◌↔◌, slice_get, slice_set, IsOk, MatchOption};
 ghost use Rattle.std.specs.IoError.{error_kind};
 ghost use Rattle.acct_net.specs.inner.Places.{IsWaiting, Answers, IsClosed, IsReadyAt, HasReady, IsWoken};
-ghost use Rattle.acct_net.specs.inner.Places.{ChangesOnly, HasReceived, IsPaidAt, has_ready};
+ghost use Rattle.acct_net.specs.inner.Places.{ChangesOnly, HasCaller, HasReceived, IsPaidAt};
+ghost use Rattle.acct_net.specs.inner.Places.{has_ready};
 ghost use Rattle.acct_net.specs.inner.Places.{HasNoneToDrop, IsDroppable, IsFirstToDrop, IsLate};
 ghost use Rattle.acct_net.specs.inner.Places.{IsEarlier, IsServed, accepted_at};
 ghost use Rattle.std.specs.Time.{instant_nanos};
@@ -296,8 +297,11 @@ impl<R: Binds> Desk<R> {
         Ok(true)
     }
 
-    // Accepts a caller that waits, if there is one, in the place of whoever is there.
+    // Accepts a caller that waits, if there is one, in the place of whoever is there. If there is
+    // none, nobody is accepted before somebody connects.
     fn accept_at(&mut self, place: usize, readiness: &Readiness, now: Instant) -> Result<(), Fault>
+        ensures taken { OnOk result (self.new.may_accept ≡ true
+            → place < length self.old.places.items → HasCaller self.new.places.items place) }
         ensures places { ChangesOnly place self.old.places.items self.new.places.items }
         ensures other { self.new ≡ record self.old {
           may_accept = self.new.may_accept;

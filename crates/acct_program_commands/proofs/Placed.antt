@@ -1,9 +1,11 @@
 -- A file that was rewritten in one way was rewritten in each way that this one gives.
-use Rattle.std.specs.Prelude.{◌≡◌, ⊤, ℕ, List, Option, Some, None, Result, Ok, Err, OnOk}
+use Rattle.std.specs.Prelude.{◌≡◌, ⊤, ℕ, Bool, List, Option, Some, None, Result, Ok, Err, OnOk}
 use Rattle.std.specs.Prelude.{is_err, false}
 use Rattle.acct_book.specs.Content.{Content}
-use Rattle.acct_program_commands.specs.Placed.{IsPut, PutsBalances, balances_text}
+use Rattle.acct_program_commands.specs.Placed.{IsPut, PutsAccounts, PutsBalances, balances_text}
+use Rattle.acct_program_commands.specs.Placed.{took_long}
 use Rattle.acct_program_commands.specs.Rounds.{KeepsAt}
+use Rattle.acct_program_commands.specs.Unwritten.{Rewrites}
 use Rattle.acct_program_commands.specs.declared.fresh_file.FreshFile.{FreshFile}
 
 pub keeps_however : (One Other : List ℕ → Type 0) (so : (name : List ℕ) → One name → Other name)
@@ -15,6 +17,18 @@ keeps_however One Other so moment (Some old) (Some new) (due, idle) = (
   λ is_due. let (is_long, (begun, put)) = due is_due in
       (is_long, (begun, λ fine. so old.name (put fine))),
   idle,
+)
+
+-- what has the balances of so many accounts has all balances
+pub rewrites_counted : (Put : List ℕ → List ℕ → Type 0) (content : Content) (told : Type 0)
+    (moment : ℕ) (old new : FreshFile)
+    → ((count : ℕ) × Rewrites (took_long new.is_failing count)
+    (λ name. PutsAccounts (Put name) count content told) moment old new)
+    → (is_long : Bool)
+    × Rewrites is_long (λ name. PutsBalances (Put name) content told) moment old new
+rewrites_counted Put content told moment old new (count, (begun, put)) = (
+  took_long new.is_failing count,
+  (begun, λ fine. let (entries, all, placed, counted) = put fine in (entries, all, placed)),
 )
 
 -- what has all balances is some file

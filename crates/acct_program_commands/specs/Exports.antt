@@ -1,5 +1,5 @@
 -- What `export` prints.
-use Rattle.std.specs.Prelude.{◌≡◌, ◌⊎◌, ℕ, ℤ, List, Option, None}
+use Rattle.std.specs.Prelude.{◌≡◌, ◌⊎◌, ℕ, ℤ, List, Option, None, length}
 use Rattle.std.specs.Io.KnownBytes.{Appends}
 use Rattle.acct_model.specs.declared.plan.Plan.{Plan}
 use Rattle.acct_model.specs.Vouchers.{TopUpFacts}
@@ -27,6 +27,16 @@ IsExportFault told = (told ≡ fault.Store store.Unavailable) ⊎ (told ≡ faul
 -- a header, and a line for each plan
 abbrev pub plans_text : List Plan → List ℕ
 plans_text plans = export_text plan_header (λ plan. line (plan_fields plan)) plans
+
+-- The balance of each account of a content is written, and there are so many accounts. The content
+-- is `known` if the book is open.
+abbrev pub WritesBalances : Content → Type 0 → Option (List ℕ) → Option (List ℕ) → ℕ → Type 0
+WritesBalances content known before after count =
+    (entries : List (List ℕ × ℤ))
+    × Appends before after (export_text (account_header which.Balances)
+    (λ e. account_line which.Balances e.0 e.1) entries)
+    × (length entries ≡ count)
+    × (known → AreAllPast octets_cmp content.balances None entries)
 
 -- What is written of a content: a header, and a line for each member, once and in order. `told`
 -- means that the book is open, so that its content is known.

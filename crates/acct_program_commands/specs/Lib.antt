@@ -11,6 +11,7 @@ pub mod Forwarding
 pub mod Fresh
 pub mod Imports
 pub mod KeptNames
+pub mod Last
 pub mod Looks
 pub mod Minutes
 pub mod Names

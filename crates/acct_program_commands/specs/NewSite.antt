@@ -1,6 +1,8 @@
 -- Which configuration replaces another one while a server runs, and what is printed about it.
 use Rattle.std.specs.Prelude.{◌≡◌, ◌≢◌, ◌↔◌, ◌⊎◌, ℕ, List, [], ◌∷◌, ◌++◌, Option, None, Some}
-use Rattle.std.specs.Prelude.{Ok, Err, Bool, false, IsTrue, codes, decimal, length, Contains}
+use Rattle.std.specs.Prelude.{Ok, Err, Bool, false, IfSome, IsTrue, codes, decimal, length}
+use Rattle.std.specs.Prelude.{Contains}
+use Rattle.std.specs.Io.KnownBytes.{Appends}
 use Rattle.acct_model.specs.declared.plan.Plan.{Plan}
 use Rattle.acct_model.specs.Plans.{Extends, plan_class}
 use Rattle.acct_model.specs.Shown.{shown}
@@ -103,3 +105,33 @@ NamesChange own in_force text =
 -- `WHY; the old one stays`
 abbrev pub kept_line : Fault → List ℕ
 kept_line why = fault_text why ++ codes "; the old one stays" ++ 10 ∷ []
+
+-- what is printed if plans differ and there is no memory to name one
+abbrev pub unnamed_text : List ℕ
+unnamed_text = codes "; the plans differ, and stay"
+
+-- Of the plans of the configuration that a reading spells: whether they are those in force, and the
+-- text that names one that differs, if there is one.
+abbrev pub TellsOfPlans : List Plan → Reading → Bool → Option (List ℕ) → Type 0
+TellsOfPlans plans reading is_current change =
+    (spelled : Config) × IsRead reading (Ok spelled)
+    × (IsTrue is_current ↔ HaveSame spelled.plans plans)
+    × IfSome change (NamesChange spelled.plans plans)
+
+-- What is printed behind the sizes of a configuration: nothing if its plans are those in force,
+-- else which one differs, or that some do.
+abbrev pub IsBehindSizes : List Plan → List Plan → List ℕ → Type 0
+IsBehindSizes own in_force text =
+    (HaveSame own in_force × (text ≡ []))
+    ⊎ (NamesChange own in_force text ⊎ ((¬ HaveSame own in_force) × (text ≡ unnamed_text)))
+
+-- What is printed of a reading: the sizes of the configuration that was taken, and which of its
+-- plans differ; or why the old one stays.
+abbrev pub TellsTaken : List Plan → Reading → Option Config → Option Fault → Option (List ℕ)
+    → Option (List ℕ) → Type 0
+TellsTaken plans reading (Some site) why before after =
+    (spelled : Config) × IsRead reading (Ok spelled)
+    × (behind : List ℕ) × IsBehindSizes spelled.plans plans behind
+    × Appends before after (read_again_text (sizes_of site) ++ behind ++ 10 ∷ [])
+TellsTaken plans reading None (Some why) before after = Appends before after (kept_line why)
+TellsTaken plans reading None None before after = ⊥

@@ -1,5 +1,5 @@
 -- What was written into a file that was put in the place of another one.
-use Rattle.std.specs.Prelude.{ℕ, ℤ, List, None}
+use Rattle.std.specs.Prelude.{◌≡◌, ◌&&◌, ℕ, ℤ, Bool, List, None, length, nat_lt, not}
 use Rattle.acct_book.specs.Content.{Content}
 use Rattle.acct_book.specs.Maps.{octets_cmp}
 use Rattle.acct_book.specs.Walk.{AreAllPast}
@@ -25,6 +25,16 @@ module _ (Put : List ℕ → Type 0) where
   PutsBalances content told =
       (entries : List (List ℕ × ℤ)) × (told → AreAllPast octets_cmp content.balances None entries)
       × Put (balances_text entries)
+
+  -- The same, of so many accounts.
+  abbrev pub PutsAccounts : ℕ → Content → Type 0 → Type 0
+  PutsAccounts count content told =
+      (entries : List (List ℕ × ℤ)) × (told → AreAllPast octets_cmp content.balances None entries)
+      × Put (balances_text entries) × (length entries ≡ count)
+
+-- whether a write took long: it did not fail, and wrote more accounts than this
+abbrev pub took_long : Bool → ℕ → Bool
+took_long has_failed count = not has_failed && nat_lt 10000 count
 
 -- A file with the text of these figures was put in its place.
 pub record PutsFigures (Put : List ℕ → Type 0) (figures : Figures) : Type 0 where

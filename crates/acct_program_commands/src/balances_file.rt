@@ -3,23 +3,22 @@
 //!
 //! It is written after a slice of turns, at most once in so many seconds. A failed write changes
 //! nothing else. It is printed once, until a write succeeds again.
-ghost use Rattle.std.specs.Prelude.{◌≡◌, Bool, IfOk, OnOk, is_err};
+ghost use Rattle.std.specs.Prelude.{◌≡◌, ℕ, IfOk, is_err};
 ghost use Rattle.acct_book.specs.Step.{OnlyLooks};
-ghost use Rattle.acct_program_commands.specs.Exports.{Exports};
+ghost use Rattle.acct_program_commands.specs.Exports.{WritesBalances};
 ghost use Rattle.acct_program_commands.specs.Fresh.{IsDue};
-ghost use Rattle.acct_program_commands.specs.Placed.{PutsBalances};
+ghost use Rattle.acct_program_commands.specs.Placed.{PutsAccounts, took_long};
 ghost use Rattle.acct_program_commands.specs.Unwritten.{next_count, puts_after, unwritten};
 ghost use Rattle.acct_program_commands.specs.Unwritten.{Rewrites};
 
 use crate::counted_lines::CountedLines;
-use crate::exporting::run_export;
+use crate::exporting::write_balances;
 use crate::fault::Fault;
 use crate::file_changes::ReplacesFiles;
 use crate::fresh_file::FreshFile;
 use crate::gauges::{BalancesWritten, Gauges};
 use acct_book::Book;
-use acct_model::Plans;
-use acct_program_args::{BalancesFile, Export};
+use acct_program_args::BalancesFile;
 use std::alloc::{AllocError, Global};
 use std::io::Write;
 
@@ -55,7 +54,6 @@ impl<'r, R: ReplacesFiles> KeptBalances<'r, R> {
     pub fn keep<B: Book, E: Write>(
         &mut self,
         alloc: Global,
-        plans: &Plans,
         book: &mut B,
         moment: u64,
         gauges: &Gauges,
@@ -63,15 +61,16 @@ impl<'r, R: ReplacesFiles> KeptBalances<'r, R> {
     )
         ensures looks { OnlyLooks B.Book book.old book.new }
         ensures due { IsDue self.old.file.pause self.old.file.begun_at moment
-            → (is_long : Bool) × Rewrites is_long (λ name. PutsBalances (R.was_put name)
-            (B.content book.old) (B.is_open book.new)) moment self.old.file self.new.file }
+            → (count : ℕ) × Rewrites (took_long self.new.file.is_failing count)
+            (λ name. PutsAccounts (R.was_put name) count (B.content book.old)
+            (B.is_open book.new)) moment self.old.file self.new.file }
         ensures idle { ¬ IsDue self.old.file.pause self.old.file.begun_at moment
             → self.new.file ≡ self.old.file }
     {
         if !self.file.is_due(moment) {
             return;
         }
-        let written = write_file(self.runtime, alloc, &mut self.file, plans, book);
+        let written = write_file(self.runtime, alloc, &mut self.file, book);
         let (is_long, noted) = match written {
             Ok((accounts, overdrawn)) => {
                 gauges.note_balances(BalancesWritten {
@@ -88,44 +87,24 @@ impl<'r, R: ReplacesFiles> KeptBalances<'r, R> {
     }
 }
 
-// Writes the header and a line for each balance to any writer, and counts the lines.
-fn write_rows<B: Book, W: Write + Drop>(
-    alloc: Global,
-    plans: &Plans,
-    book: &mut B,
-    writer: W,
-) -> Result<CountedLines<W>, Fault>
-    ensures looks { OnlyLooks B.Book book.old book.new }
-    ensures rows { IfOk result (λ counted. Exports plans.now (B.content book.old)
-        (B.is_open book.new) (W.contents writer) (W.contents counted.writer) Export.Balances) }
-{
-    run_export(
-        alloc,
-        Export::Balances,
-        plans,
-        book,
-        CountedLines::new(writer),
-    )
-}
-
 // Writes all balances into a file. Returns the number of accounts and of overdrawn ones.
 fn write_file<R: ReplacesFiles, B: Book>(
     runtime: &R,
     alloc: Global,
     file: &mut FreshFile,
-    plans: &Plans,
     book: &mut B,
 ) -> Result<(u64, u64), Fault>
     ensures looks { OnlyLooks B.Book book.old book.new }
-    ensures put { OnOk result (PutsBalances (R.was_put file.old.name) (B.content book.old)
-        (B.is_open book.new)) }
+    ensures put { IfOk result (λ counts. PutsAccounts (R.was_put file.old.name) counts.0
+        (B.content book.old) (B.is_open book.new)) }
     ensures counted { file.new ≡ record file.old {
       begins = next_count file.old.begins;
       puts = puts_after (is_err result) file.old.puts;
     } }
 {
-    let written = write_rows(alloc, plans, book, file.begin(runtime)?)?;
-    let counts = (written.accounts(), written.overdrawn());
+    let writer = CountedLines::new(file.begin(runtime)?);
+    let (written, count) = write_balances(alloc, book, writer)?;
+    let overdrawn = written.overdrawn();
     file.finish(runtime, written.writer)?;
-    Ok(counts)
+    Ok((count, overdrawn))
 }

@@ -15,14 +15,23 @@ use std::{fmt, io};
 // SQLite's file format has them. Whoever closes a book leaves a shorter log, which has no commit.
 const LEAST_LOG: u64 = 32 + 24;
 
-/// What the clock says, and when it says that a book was last changed.
+/// What the clock says, and when it says that a book was last changed. Only `read_clock` gives one.
 #[derive(Clone, Copy, PartialEq, Eq, Debug)]
 pub struct ClockReading {
     /// The moment, in seconds since 1970.
-    pub moment: u64,
+    pub(crate) moment: u64,
     /// When the book's file or its log was last written, in seconds since 1970: 0 if that is not
     /// known.
-    pub written_at: u64,
+    pub(crate) written_at: u64,
+}
+
+impl ClockReading {
+    /// The moment, in seconds since 1970.
+    pub fn moment(self) -> u64
+        ensures { result ≡ self.moment }
+    {
+        self.moment
+    }
 }
 
 // A clock that is before the last change of a book.

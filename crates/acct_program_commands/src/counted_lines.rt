@@ -1,4 +1,4 @@
-//! A writer of balances that counts the accounts.
+//! A writer of balances that counts the overdrawn accounts.
 ghost use Rattle.std.specs.Prelude.{◌≡◌};
 
 use std::io;
@@ -7,12 +7,11 @@ use std::io::Write;
 // How the line of an account ends that is not overdrawn.
 const NO_OVERRUN: [u8; 2] = *b",0";
 
-/// A writer that passes all octets on. It counts the lines of `export balances` in them: all of
-/// them, and those of overdrawn accounts.
+/// A writer that passes all octets on. It counts the lines of overdrawn accounts among those of
+/// `export balances`.
 #[derive(Drop)]
 pub(crate) struct CountedLines<W> {
     pub(crate) writer: W,
-    lines: u64,
     overdrawn: u64,
     last: [u8; 2],
 }
@@ -24,18 +23,12 @@ impl<W: Write> CountedLines<W> {
     {
         CountedLines {
             writer,
-            lines: 0,
             overdrawn: 0,
             last: [0; 2],
         }
     }
 
-    /// How many accounts were written. The first line has the column names.
-    pub(crate) fn accounts(&self) -> u64 {
-        self.lines.saturating_sub(1)
-    }
-
-    /// How many overdrawn accounts were written.
+    /// How many overdrawn accounts were written. The first line has the column names.
     pub(crate) fn overdrawn(&self) -> u64 {
         self.overdrawn.saturating_sub(1)
     }
@@ -44,11 +37,8 @@ impl<W: Write> CountedLines<W> {
     fn note(&mut self, octet: u8)
         ensures { self.new.writer ≡ self.old.writer }
     {
-        if octet == b'\n' {
-            self.lines = self.lines.saturating_add(1);
-            if self.last != NO_OVERRUN {
-                self.overdrawn = self.overdrawn.saturating_add(1);
-            }
+        if octet == b'\n' && self.last != NO_OVERRUN {
+            self.overdrawn = self.overdrawn.saturating_add(1);
         }
         self.last = [self.last[1], octet];
     }

@@ -3,6 +3,7 @@ ghost use Rattle.std.specs.Prelude.{◌≡◌, IfOk, IfErr};
 ghost use Rattle.std.specs.Io.KnownBytes.{Appends};
 ghost use Rattle.acct_book.specs.Step.{Looks};
 ghost use Rattle.acct_program_commands.specs.Exports.{Exports, IsExportFault, plans_text};
+ghost use Rattle.acct_program_commands.specs.Exports.{WritesBalances};
 ghost use Rattle.acct_program_commands.specs.inner.Stops.{export_fault};
 
 use crate::fault::{Fault, StoreFault};
@@ -40,9 +41,32 @@ pub fn run_export<B: Book, W: Write + Drop>(
         Export::Overruns => export_overruns(alloc, book, output),
     };
     match written {
-        Ok(mut writer) => {
+        Ok((mut writer, _)) => {
             writer.flush()?;
             Ok(writer)
+        }
+        Err(error) => Err(fault_of(error)),
+    }
+}
+
+/// Writes all balances, and returns the writer, flushed, and how many accounts there are.
+///
+/// # Errors
+///
+/// Those of `run_export`.
+pub(crate) fn write_balances<B: Book, W: Write + Drop>(
+    alloc: Global,
+    book: &mut B,
+    output: W,
+) -> Result<(W, u64), Fault>
+    ensures reads { Looks B.Book book.old book.new result }
+    ensures text { IfOk result (λ done. WritesBalances (B.content book.old) (B.is_open book.new)
+        (W.contents output) (W.contents done.0) done.1) }
+{
+    match export_balances(alloc, book, output) {
+        Ok((mut writer, count)) => {
+            writer.flush()?;
+            Ok((writer, count))
         }
         Err(error) => Err(fault_of(error)),
     }

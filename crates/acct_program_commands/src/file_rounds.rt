@@ -13,7 +13,7 @@ use crate::balances_file::KeptBalances;
 use crate::book_names::BookNames;
 use crate::file_changes::ReplacesFiles;
 use crate::gauges::Gauges;
-use crate::new_site::take_site;
+use crate::new_site::{Taken, take_site};
 use crate::site_source::SiteSource;
 use acct_book::Book;
 use acct_model::Plans;
@@ -95,15 +95,7 @@ impl<'r, R: ReplacesFiles, S: SiteSource + Drop, E: Write + Drop> Rounds
     ) -> Option<Config> {
         let moment = self.source.moment();
         let (gauges, errors) = (self.gauges, &mut self.errors);
-        keep_at(
-            alloc,
-            &mut self.balances,
-            config,
-            book,
-            moment,
-            gauges,
-            errors,
-        );
+        keep_at(alloc, &mut self.balances, book, moment, gauges, errors);
         look_at(&mut self.names, moment, self.gauges, &mut self.errors);
         let source = &mut self.source;
         take_polled(
@@ -133,7 +125,6 @@ impl<'r, R: ReplacesFiles, S: SiteSource + Drop, E: Write + Drop> Rounds
 pub fn keep_at<R: ReplacesFiles, B: Book, E: Write>(
     alloc: Global,
     balances: &mut Option<KeptBalances<'_, R>>,
-    config: &Config,
     book: &mut B,
     moment: u64,
     gauges: &Gauges,
@@ -144,7 +135,7 @@ pub fn keep_at<R: ReplacesFiles, B: Book, E: Write>(
         (B.is_open book.new)) moment (file_of balances.old) (file_of balances.new) }
 {
     if let Some(balances) = balances {
-        balances.keep(alloc, &config.plans, book, moment, gauges, errors);
+        balances.keep(alloc, book, moment, gauges, errors);
     }
 }
 
@@ -164,12 +155,17 @@ fn take_polled<S: SiteSource, E: Write>(
     ensures plans { IfSome result (λ site. site.plans ≡ plans.now) }
 {
     let read = source.look(alloc, moment)?;
-    let taken = take_site(alloc, read, plans, errors);
-    gauges.note_config(taken.is_current);
-    if let Some(why) = taken.refused {
+    let Taken {
+        site,
+        is_current,
+        refused,
+        printed: _,
+    } = take_site(alloc, read, plans, errors);
+    gauges.note_config(is_current);
+    if let Some(why) = refused {
         source.explain(alloc, why, errors);
     }
-    taken.site
+    site
 }
 
 // Looks where the names of a book lead, if they are known.

@@ -56,4 +56,4 @@ pub use site_source::SiteSource;
 pub use status_file::{StateSource, StatusFile};
 pub use tally::{Arrivals, Tally};
 pub use told::{Minute, ToldDrop};
-pub use watching::{Watch, Watched};
+pub use watching::{Finished, Watch, Watched};

@@ -3,8 +3,8 @@
 //! 1. The server takes the clients and keys of a text if the text is right. It keeps the plans that
 //!    it began with: plans are added to a book while no server serves it.
 //! 2. It prints what it read, taken or not, and the first plan that differs.
-ghost use Rattle.std.specs.Prelude.{◌≡◌, ◌↔◌, Some, Err, IsTrue, IfOk, IfErr, IfSome, IfNone, OnOk};
-ghost use Rattle.std.specs.Prelude.{◌++◌, ◌∷◌, [], string_bytes};
+ghost use Rattle.std.specs.Prelude.{◌≡◌, ◌↔◌, None, Some, Err, IsTrue, IfOk, IfErr, IfSome, IfNone};
+ghost use Rattle.std.specs.Prelude.{◌++◌, ◌∷◌, [], OnOk, if◌then◌else◌, option_map, string_bytes};
 ghost use Rattle.std.specs.Io.KnownBytes.{Appends};
 ghost use Rattle.acct_model.specs.Plans.{Extends, plan_class};
 ghost use Rattle.acct_site_config.specs.Tables.{top_error};
@@ -14,10 +14,11 @@ ghost use Rattle.acct_program_commands.specs.NewSite.{change_text};
 ghost use Rattle.acct_program_commands.specs.NewSite.{plan_change_text, HaveSame, HasBeyond};
 ghost use Rattle.acct_program_commands.specs.NewSite.{IsChange};
 ghost use Rattle.acct_program_commands.specs.NewSite.{NamesChange, IsTaken, TakesOrRefuses};
+ghost use Rattle.acct_program_commands.specs.NewSite.{TellsOfPlans, TellsTaken, unnamed_text};
 
 use crate::config_file::config_in;
 use crate::fault::Fault;
-use acct_model::{Octets, Plan, Plans, show};
+use acct_model::{NoMemory, Octets, Plan, Plans, show};
 use acct_program::InputFault;
 use acct_site::Config;
 use acct_site_config::{ConfigError, ConfigKind, ConfigTable};
@@ -37,6 +38,8 @@ pub struct Taken {
     pub is_current: bool,
     /// Why the text is no configuration, if it is none.
     pub refused: Option<Fault>,
+    /// Whether this could be printed.
+    pub printed: io::Result<()>,
 }
 
 // The sizes of a configuration that is taken.
@@ -92,28 +95,43 @@ pub fn take_site<E: Write>(
 ) -> Taken
     ensures taken { IsTaken plans.now read result.site result.is_current }
     ensures one { TakesOrRefuses plans.now read result.site result.is_current result.refused }
+    ensures prints { OnOk result.printed (TellsTaken plans.now read result.site result.refused
+        (E.contents errors.old) (E.contents errors.new)) }
 {
     match judge(alloc, read, plans) {
         Ok((site, is_current, change)) => {
-            let _ = match &change {
-                Some(text) => write_read_again(errors, sizes_of(&site), text.as_str()),
-                None if is_current => write_read_again(errors, sizes_of(&site), ""),
-                None => write_read_again(errors, sizes_of(&site), UNNAMED),
-            };
+            let change = told_change(&change, is_current);
+            let printed = write_read_again(errors, sizes_of(&site), change);
             Taken {
                 site: Some(site),
                 is_current,
                 refused: None,
+                printed,
             }
         }
         Err(fault) => {
-            let _ = write_kept(errors, fault);
+            let printed = write_kept(errors, fault);
             Taken {
                 site: None,
                 is_current: false,
                 refused: Some(fault),
+                printed,
             }
         }
+    }
+}
+
+// What is printed behind the sizes of a configuration: nothing if its own plans are in force, else
+// which plan differs, if there was memory to name it.
+fn told_change(change: &Option<String>, is_current: bool) -> &str
+    ensures named { IfSome change.now (λ text. result.now ≡ string_bytes text) }
+    ensures unnamed { change.now ≡ None
+        → result.now ≡ (if is_current then [] else unnamed_text) }
+{
+    match change {
+        Some(text) => text.as_str(),
+        None if is_current => "",
+        None => UNNAMED,
     }
 }
 
@@ -125,16 +143,18 @@ fn judge(
     plans: &Plans,
 ) -> Result<(Config, bool, Option<String>), Fault>
     ensures taken { IfOk result (λ judged. IsTaken plans.now read (Some judged.0) judged.1) }
+    ensures change { IfOk result (λ judged. TellsOfPlans plans.now read judged.1
+        (option_map string_bytes judged.2)) }
     ensures refused { IfErr result (λ fault. IsRead read (Err fault)) }
 {
     let mut site = config_in(alloc, read)?;
     let (is_current, change) = compared(alloc, &site.plans, plans);
     match copied(alloc, plans) {
-        Some(plans) => {
+        Ok(plans) => {
             site.plans = plans;
             Ok((site, is_current, change))
         }
-        None => Err(no_memory()),
+        Err(NoMemory) => Err(no_memory()),
     }
 }
 
@@ -144,9 +164,13 @@ fn compared(alloc: Global, own: &Plans, in_force: &Plans) -> (bool, Option<Strin
     ensures current { IsTrue result.0 ↔ HaveSame own.now in_force.now }
     ensures named { IfSome result.1
         (λ text. NamesChange own.now in_force.now (string_bytes text)) }
+    ensures silent { IsTrue result.0 → result.1 ≡ None }
 {
     match plan_change(own, in_force) {
-        Some((plan, how)) => (false, shown_change(alloc, plan, how)),
+        Some((plan, how)) => match shown_change(alloc, plan, how) {
+            Ok(text) => (false, Some(text)),
+            Err(NoMemory) => (false, None),
+        },
         None => (true, None),
     }
 }
@@ -192,27 +216,27 @@ fn first_beyond<'p>(plans: &'p [Plan], others: &[Plan]) -> Option<&'p Plan>
     None
 }
 
-// How a plan differs, as it is printed; none if there is no memory for it.
-fn shown_change(alloc: Global, plan: &Plan, how: Change) -> Option<String>
-    ensures { IfSome result (λ text. string_bytes text ≡ plan_change_text plan.now how) }
+// How a plan differs, as it is printed.
+fn shown_change(alloc: Global, plan: &Plan, how: Change) -> Result<String, NoMemory>
+    ensures { IfOk result (λ text. string_bytes text ≡ plan_change_text plan.now how) }
 {
     let Ok(class) = show(alloc, plan.class.as_slice()) else {
-        return None;
+        return Err(NoMemory);
     };
     match format!(in alloc; "; plan {class} {how}; the plans stay") {
-        Ok(text) => Some(text),
-        Err(_) => None,
+        Ok(text) => Ok(text),
+        Err(_) => Err(NoMemory),
     }
 }
 
-// A copy of the plans; none if there is no memory for it.
-fn copied(alloc: Global, plans: &Plans) -> Option<Plans>
-    ensures { IfSome result (λ copy. copy ≡ plans.now) }
+// A copy of the plans.
+fn copied(alloc: Global, plans: &Plans) -> Result<Plans, NoMemory>
+    ensures { IfOk result (λ copy. copy ≡ plans.now) }
 {
     let mut copies = Vec::new(alloc);
     for plan in plans.list() {
         let Ok(class) = plan.class.copy(alloc) else {
-            return None;
+            return Err(NoMemory);
         };
         let copy = Plan {
             class,
@@ -221,10 +245,10 @@ fn copied(alloc: Global, plans: &Plans) -> Option<Plans>
             count: plan.count,
         };
         if copies.push(copy).is_err() {
-            return None;
+            return Err(NoMemory);
         }
     }
-    Plans::new(copies).ok()
+    Plans::new(copies).map_err(|_| NoMemory)
 }
 
 // The fault if there is no memory for the plans.

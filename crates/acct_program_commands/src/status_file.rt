@@ -264,25 +264,15 @@ impl<'r, R: ReplacesFiles, E: Write> StatusFile<'r, R, E> {
             .note(moment, false, "status", written, &mut self.errors);
     }
 
-    // Writes the counts at the end, and returns the writer.
-    pub(crate) fn finish(mut self) -> E {
+    // Writes the counts at the end.
+    pub(crate) fn write_last(&mut self)
+        ensures file { IsBegun false None self.old.file self.new.file }
+        ensures put { self.new.file.is_failing ≡ false → (state : State)
+            × PutsFigures (R.was_put self.old.file.name) (figures_of (muted self.old) state) }
+        ensures counts { CountsAs muted (Some self.old) (Some self.new) }
+    {
         self.meter.note_mute();
         self.write(None);
-        let StatusFile {
-            runtime: _,
-            alloc: _,
-            file: _,
-            meter: _,
-            dropped: _,
-            started_at: _,
-            last_event_at: _,
-            datagrams: _,
-            reports: _,
-            requests: _,
-            state: _,
-            errors,
-        } = self;
-        errors
     }
 }
 

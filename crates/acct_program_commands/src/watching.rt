@@ -9,7 +9,7 @@
 //!    read if nothing is logged or written.
 //! 4. A line that cannot be written is lost, and changes nothing else.
 ghost use Rattle.std.specs.Prelude.{◌≡◌, ◌++◌, ◌∷◌, [], ℕ, Option, OnOk, replicate, None, false};
-ghost use Rattle.std.specs.Prelude.{◌<◌, ◌^◌, ◌+◌, ◌-◌, IfOk, is_ok, true};
+ghost use Rattle.std.specs.Prelude.{◌<◌, ◌^◌, ◌+◌, ◌-◌, IfOk, Some, is_ok, option_map, true};
 ghost use Rattle.std.specs.Io.KnownBytes.{Appends};
 ghost use Rattle.acct_service.specs.Told.{CountsFault, Grows, given, sent, drop_told};
 ghost use Rattle.acct_program_commands.specs.Told.{WritesDrop, minute_text};
@@ -18,6 +18,7 @@ ghost use Rattle.acct_program_commands.specs.Tally.{is_event};
 ghost use Rattle.acct_program_commands.specs.Counted.{CountsAs, with_turn, with_answer, with_refusal};
 ghost use Rattle.acct_program_commands.specs.Minutes.{Begins, CountsMinute, IsMomentOf, IsOver};
 ghost use Rattle.acct_program_commands.specs.Minutes.{WatchesTurn, WatchesReply, WatchesDrop};
+ghost use Rattle.acct_program_commands.specs.Last.{TellsLast, WritesLast};
 ghost use Rattle.acct_program_commands.specs.inner.ToldDrops.{TellsOf};
 
 use crate::drop_log::DropLog;
@@ -84,7 +85,7 @@ impl<W: Write> Watch<W> {
     {
         self.meter.note_mute();
         if self.meter.tally != Tally::none() && moment.abs_diff(self.began_at) >= MINUTE {
-            self.tell_minute();
+            let _ = self.tell_minute();
         }
         if self.meter.tally == Tally::none() {
             self.began_at = moment;
@@ -123,26 +124,23 @@ impl<W: Write> Watch<W> {
     }
 
     // Prints what was counted since it was last printed.
-    fn tell_minute(&mut self)
-        ensures { self.new ≡ record self.old {
+    fn tell_minute(&mut self) -> io::Result<()>
+        ensures counts { self.new ≡ record self.old {
           writer = self.new.writer;
           meter = record self.old.meter { tally = no_tally };
         } }
+        ensures tells { OnOk result (Appends (W.contents self.old.writer)
+            (W.contents self.new.writer) (minute_text self.old.meter.tally ++ 10 ∷ [])) }
     {
         let tally = self.meter.tally;
-        let _ = write_minute(&mut self.writer, &Minute { tally });
         self.meter.tally = Tally::none();
+        write_minute(&mut self.writer, &Minute { tally })
     }
 
-    // Prints the remaining counts at the end.
-    fn finish(mut self) -> W
-        ensures { with_mute self.meter.is_unanswered self.meter.tally ≡ no_tally
-            → result ≡ self.writer }
+    // The writer.
+    fn into_writer(self) -> W
+        ensures { result ≡ self.writer }
     {
-        self.meter.note_mute();
-        if self.meter.tally != Tally::none() {
-            self.tell_minute();
-        }
         let Watch {
             writer,
             log: _,
@@ -150,6 +148,36 @@ impl<W: Write> Watch<W> {
             began_at: _,
         } = self;
         writer
+    }
+
+    // Prints the remaining counts at the end.
+    fn tell_last(&mut self) -> io::Result<()>
+        ensures { TellsLast W.contents result (Some self.old) (Some self.new) }
+    {
+        self.meter.note_mute();
+        if self.meter.tally == Tally::none() {
+            return Ok(());
+        }
+        self.tell_minute()
+    }
+}
+
+// Writes the counts of a server at the end, if they are written.
+fn write_last<'r, R: ReplacesFiles, E: Write>(status: &mut Option<StatusFile<'r, R, E>>)
+    ensures { WritesLast R.was_put status.old status.new }
+{
+    if let Some(status) = status {
+        status.write_last();
+    }
+}
+
+// Prints the remaining counts at the end, if counts are printed.
+fn tell_last<W: Write>(watch: &mut Option<Watch<W>>) -> io::Result<()>
+    ensures { TellsLast W.contents result watch.old watch.new }
+{
+    match watch {
+        Some(watch) => watch.tell_last(),
+        None => Ok(()),
     }
 }
 
@@ -247,27 +275,59 @@ impl<'r, R: Clock + ReplacesFiles, X: Exchange, W: Write, E: Write + Drop> Watch
         }
     }
 
-    /// Prints and writes the remaining counts, and returns the exchange and the writer.
-    pub fn finish(self) -> (X, Option<W>)
-        ensures turns { X.turn_count result.0
-            ≡ ⟦<Watched<'r, R, X, W, E> as Exchange>⟧.turn_count self.entry }
-        ensures failures { X.failure_count result.0
-            ≡ ⟦<Watched<'r, R, X, W, E> as Exchange>⟧.failure_count self.entry }
-        ensures told { X.told result.0 ≡ ⟦<Watched<'r, R, X, W, E> as Exchange>⟧.told self.entry }
+    /// Prints and writes the remaining counts.
+    pub fn finish(mut self) -> Finished<'r, R, X, W, E>
+        ensures exchange { result.watched.exchange ≡ self.entry.exchange }
+        ensures writes { WritesLast R.was_put self.entry.status result.watched.status }
+        ensures prints { TellsLast W.contents result.printed self.entry.watch result.watched.watch }
+    {
+        write_last(&mut self.status);
+        let printed = tell_last(&mut self.watch);
+        Finished {
+            watched: self,
+            printed,
+        }
+    }
+
+    // The exchange, and the writer of what was watched.
+    fn into_parts(self) -> (X, Option<W>)
+        ensures exchange { result.0 ≡ self.entry.exchange }
+        ensures writer { result.1 ≡ option_map (λ watch. watch.writer) self.entry.watch }
     {
         let Watched {
             clock: _,
             exchange,
             watch,
-            status,
+            status: _,
         } = self;
-        if let Some(status) = status {
-            status.finish();
-        }
         match watch {
-            Some(watch) => (exchange, Some(watch.finish())),
+            Some(watch) => (exchange, Some(watch.into_writer())),
             None => (exchange, None),
         }
+    }
+}
+
+/// A watched exchange whose last counts were printed and written. Only `Watched::finish` makes one.
+#[derive(Drop)]
+pub struct Finished<'r, R, X: Exchange, W: Write, E: Drop> {
+    watched: Watched<'r, R, X, W, E>,
+    /// Whether the last counts could be printed.
+    pub printed: io::Result<()>,
+}
+
+impl<'r, R: Clock + ReplacesFiles, X: Exchange, W: Write, E: Write + Drop> Finished<
+    'r,
+    R,
+    X,
+    W,
+    E,
+> {
+    /// The exchange, and the writer of what was watched.
+    pub fn into_parts(self) -> (X, Option<W>)
+        ensures exchange { result.0 ≡ self.entry.watched.exchange }
+        ensures writer { result.1 ≡ option_map (λ watch. watch.writer) self.entry.watched.watch }
+    {
+        self.watched.into_parts()
     }
 }
 

@@ -54,7 +54,7 @@ pub(crate) fn tell_lost<R: ReadsFiles, E: Write>(
     file: &str,
     errors: &mut E,
 ) -> bool {
-    if !has_lost_book(runtime, alloc, file) {
+    if let Ok(false) = has_lost_book(runtime, alloc, file) {
         return false;
     }
     let Ok(log) = log_name(runtime, alloc, file) else {

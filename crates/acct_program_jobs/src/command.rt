@@ -38,7 +38,7 @@ use acct_program_commands::{
 };
 use acct_program_serving::Errors;
 use acct_reads::ReadsFiles;
-use acct_service::{Exchange, moment_of};
+use acct_service::Exchange;
 use acct_site::{Config, sample_config};
 use acct_sql::SqlBook;
 use sqlite::{Alter, Connection, FileFrom, FileStore, Files, MemStore, Start};
@@ -168,7 +168,7 @@ fn do_book_job<S: Start, I: Read + Drop, W: Write + Drop, E: Write + Drop>(
         BookJob::Init { has_sums } => make(runtime, Making::new(*has_sums), files, output, start),
         BookJob::Serve(serving) => serve_files(runtime, files, serving, output, errors, start),
         BookJob::Import => {
-            let import = Import::at(moment_of(runtime), input);
+            let import = Import::by(read_clock(runtime, files.database), input);
             work_on(runtime, files, import, output, start)
         }
         BookJob::Export(what) => export(runtime, files, *what, output, start),

@@ -2,17 +2,16 @@
 //!
 //! What the files held is a parameter of each call, `S: Start`, which no code can read. An error
 //! returns what it left of them.
-ghost use Rattle.std.specs.Prelude.{◌≡◌, false, IfOk, IfErr};
+ghost use Rattle.std.specs.Prelude.{◌≡◌, Bool, false, is_some, IfOk, IfErr};
 ghost use Rattle.sqlite_wal.specs.Files.{image_at};
 ghost use Rattle.sqlite_wal.specs.Recovery.{Image};
 ghost use Rattle.sqlite.specs.State.{HasCleanDisk};
-ghost use Rattle.sqlite.specs.Files.{file_state, IsBlankAs};
-ghost use Rattle.sqlite_store.specs.FileStore.{view};
+ghost use Rattle.sqlite.specs.Files.{file_state};
 ghost use Rattle.acct_program_jobs.specs.Faults.{store_fault_of};
 ghost use Rattle.acct_program_jobs.specs.Files.{IsBookOf, IsMade, IsRefused, HasNotMade, IsUnread};
 ghost use Rattle.acct_program_jobs.specs.Files.{Copies, IsGuarded, IsUnclosed, IsUnlisted};
-ghost use Rattle.acct_program_jobs.specs.Looks.{IsReadable};
-ghost use Rattle.acct_program_jobs.specs.inner.Files.{IsOpenedOn};
+ghost use Rattle.acct_program_jobs.specs.Looks.{MayOpen};
+ghost use Rattle.acct_program_jobs.specs.inner.Files.{HasSums, IsOpenedOn, sums_of};
 
 use crate::book_file::BookFile;
 use crate::left::Left;
@@ -60,20 +59,21 @@ pub fn made<S: Start>(
         → IsMade making (image_at S.Start) plans.now done.1 done.0) }
     ensures refused { IfErr result (λ e.
         HasNotMade making (image_at S.Start) plans.now e.0 e.1) }
-    ensures readable { IfOk result (λ _. IsReadable ⟦<HostRuntime as ReadsFiles>⟧.leads_to
+    ensures seen { IfOk result (λ _. MayOpen ⟦<HostRuntime as ReadsFiles>⟧.leads_to
         ⟦<HostRuntime as ReadsFiles>⟧.was_opened
         ⟦<<HostRuntime as ReadsFiles>::Reader as Read>⟧.remaining
+        ⟦<HostRuntime as ReadsFiles>⟧.was_asked (is_some (sums_of making))
         files.entry.database.now files.entry.loses_commits) }
 {
-    let (sums, file) = (making.sums(), files.database);
-    let looked = match Looked::at(runtime, files, sums.is_some()) {
+    let is_new = making.makes_new();
+    let looked = match Looked::at(runtime, files, is_new) {
         Ok(looked) => looked,
         Err(fault) => return Err((fault, Left::Nothing)),
     };
-    if sums.is_some() {
-        keep_private(runtime, file);
+    if is_new {
+        keep_private(runtime, files.database);
     }
-    let connection = opened_anew(runtime, looked, sums == Some(true), start)?;
+    let connection = opened_for(runtime, making, looked, start)?;
     made_of(runtime.alloc(), making, connection, plans)
 }
 
@@ -95,9 +95,10 @@ pub fn adopted<S: Start>(
     ensures adopted { IfOk result (λ book. HasCleanDisk (file_state book)
         → IsBookOf (image_at S.Start) plans.now book) }
     ensures refused { IfErr result (λ e. IsRefused (image_at S.Start) plans.now e.0 e.1) }
-    ensures readable { IfOk result (λ _. IsReadable ⟦<HostRuntime as ReadsFiles>⟧.leads_to
+    ensures seen { IfOk result (λ _. MayOpen ⟦<HostRuntime as ReadsFiles>⟧.leads_to
         ⟦<HostRuntime as ReadsFiles>⟧.was_opened
         ⟦<<HostRuntime as ReadsFiles>::Reader as Read>⟧.remaining
+        ⟦<HostRuntime as ReadsFiles>⟧.was_asked false
         files.entry.database.now files.entry.loses_commits) }
 {
     let looked = match Looked::at(runtime, files, false) {
@@ -123,9 +124,10 @@ pub fn listed<S: Start>(
     ensures kept { IfOk result (λ done. HasCleanDisk (file_state done.1)
         → IsBookOf (image_at S.Start) done.0 done.1) }
     ensures refused { IfErr result (λ e. IsUnlisted (image_at S.Start) e.0 e.1) }
-    ensures readable { IfOk result (λ _. IsReadable ⟦<HostRuntime as ReadsFiles>⟧.leads_to
+    ensures seen { IfOk result (λ _. MayOpen ⟦<HostRuntime as ReadsFiles>⟧.leads_to
         ⟦<HostRuntime as ReadsFiles>⟧.was_opened
         ⟦<<HostRuntime as ReadsFiles>::Reader as Read>⟧.remaining
+        ⟦<HostRuntime as ReadsFiles>⟧.was_asked false
         files.entry.database.now files.entry.loses_commits) }
 {
     let looked = match Looked::at(runtime, files, false) {
@@ -249,8 +251,7 @@ fn opened<S: Start>(
     ensures found { IfOk result (IsOpenedOn (image_at S.Start)) }
     ensures guarded { IfOk result IsGuarded }
     ensures idle { IfOk result (λ c. (file_state c).in_transaction ≡ false) }
-    ensures sums { IfOk result (λ c. HasCleanDisk (file_state c)
-        → IsBlankAs has_sums (image_at S.Start) → (view c.store).has_sums ≡ has_sums) }
+    ensures sums { IfOk result (HasSums (image_at S.Start) has_sums) }
     ensures unread { IfErr result (λ e. IsUnread (image_at S.Start) e.0 e.1) }
 {
     let file = looked.files().database;
@@ -258,6 +259,27 @@ fn opened<S: Start>(
         Ok(connection) => Ok(connection),
         Err((_, Some(rest))) => Err((Fault::CannotOpen, Left::Unopened(rest))),
         Err((_, None)) => Err((Fault::CannotOpen, Left::Nothing)),
+    }
+}
+
+// Opens the database in a file, as it was found, to make a book of it in this way.
+fn opened_for<S: Start>(
+    runtime: &HostRuntime,
+    making: Making,
+    looked: Looked<'_>,
+    start: S,
+) -> Result<FileConnection<S>, (Fault, Left<FileFrom<S>>)>
+    ensures found { IfOk result (IsOpenedOn (image_at S.Start)) }
+    ensures guarded { IfOk result IsGuarded }
+    ensures idle { IfOk result (λ c. (file_state c).in_transaction ≡ false) }
+    ensures sums { (has_sums : Bool) → making ≡ Making.New has_sums
+        → looked.entry.files.loses_commits ≡ false
+        → IfOk result (HasSums (image_at S.Start) has_sums) }
+    ensures unread { IfErr result (λ e. IsUnread (image_at S.Start) e.0 e.1) }
+{
+    match making {
+        Making::New { has_sums } => opened_anew(runtime, looked, has_sums, start),
+        Making::Migrated | Making::Extended => opened_anew(runtime, looked, false, start),
     }
 }
 
@@ -273,6 +295,8 @@ fn opened_anew<S: Start>(
     ensures found { IfOk result (IsOpenedOn (image_at S.Start)) }
     ensures guarded { IfOk result IsGuarded }
     ensures idle { IfOk result (λ c. (file_state c).in_transaction ≡ false) }
+    ensures sums { looked.entry.files.loses_commits ≡ false
+        → IfOk result (HasSums (image_at S.Start) has_sums) }
     ensures unread { IfErr result (λ e. IsUnread (image_at S.Start) e.0 e.1) }
 {
     let connection = opened(runtime, looked, has_sums, start)?;

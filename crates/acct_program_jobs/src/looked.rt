@@ -4,9 +4,11 @@
 //! none, and it blocks on a pipe. It stops reading a damaged log at the damage, and writes behind
 //! it. It empties a log next to a file without a database. A mistyped name must do none of this. So
 //! an open takes files that were looked at, and nothing but a look makes these.
-ghost use Rattle.std.specs.Prelude.{◌≡◌, false, true, IfOk, IfErr};
+ghost use Rattle.std.specs.Prelude.{◌≡◌, ℕ, List, Err, false, true, IfOk, IfErr, OnOk};
+ghost use Rattle.acct_reads.specs.Log.{IsLogOf};
 ghost use Rattle.acct_program_jobs.specs.Files.{IsUnlooked};
-ghost use Rattle.acct_program_jobs.specs.Looks.{IsReadable};
+ghost use Rattle.acct_program_jobs.specs.Looks.{HasNoFrame, IsDatabaseFile, IsEmptyBook};
+ghost use Rattle.acct_program_jobs.specs.Looks.{IsReadable, IsSeen, MayOpen, WasSaidOf};
 
 use crate::book_file::BookFile;
 use acct_model::Text;
@@ -33,9 +35,12 @@ impl<'a> Looked<'a> {
         is_new: bool,
     ) -> Result<Looked<'a>, Fault>
         ensures files { IfOk result (λ looked. looked.files ≡ files.entry) }
-        ensures readable { IfOk result (λ _. IsReadable R.leads_to R.was_opened R.Reader.remaining
-            files.entry.database.now files.entry.loses_commits) }
+        ensures seen { IfOk result (λ _. MayOpen R.leads_to R.was_opened R.Reader.remaining
+            R.was_asked is_new files.entry.database.now files.entry.loses_commits) }
         ensures why { IfErr result (IsUnlooked is_new) }
+        ensures empty { result ≡ Err (Fault.Store StoreFault.NotABook)
+            → IsEmptyBook R.leads_to R.was_opened R.Reader.remaining R.was_asked
+            files.entry.database.now }
     {
         match check_file(runtime, files.database, is_new) {
             Ok(()) if is_readable(runtime, files) => Ok(Looked { files }),
@@ -58,22 +63,29 @@ fn check_file<R: ReadsFiles + AllocGlobal>(
     file: &Text,
     is_new: bool,
 ) -> Result<(), Fault>
-    ensures { IfErr result (IsUnlooked is_new) }
+    ensures seen { OnOk result (IsSeen R.leads_to R.was_opened R.Reader.remaining R.was_asked is_new
+        file.now) }
+    ensures why { IfErr result (IsUnlooked is_new) }
+    ensures empty { result ≡ Err (Fault.Store StoreFault.NotABook)
+        → IsEmptyBook R.leads_to R.was_opened R.Reader.remaining R.was_asked file.now }
 {
     if !is_new {
         return check_existing(runtime, file);
     }
-    if has_lost_book(runtime, runtime.alloc(), file.as_str()) {
-        Err(Fault::CannotOpen)
-    } else {
-        Ok(())
+    match has_lost_book(runtime, runtime.alloc(), file.as_str()) {
+        Ok(false) => Ok(()),
+        Ok(true) | Err(_) => Err(Fault::CannotOpen),
     }
 }
 
 // Refuses a file that is no database: one that is missing, or not regular, or not long enough for a
 // header.
 fn check_existing<R: ReadsFiles + AllocGlobal>(runtime: &R, file: &Text) -> Result<(), Fault>
-    ensures { IfErr result (IsUnlooked false) }
+    ensures seen { OnOk result (WasSaidOf R.leads_to R.was_opened R.Reader.remaining R.was_asked
+        file.now IsDatabaseFile) }
+    ensures why { IfErr result (IsUnlooked false) }
+    ensures empty { result ≡ Err (Fault.Store StoreFault.NotABook)
+        → IsEmptyBook R.leads_to R.was_opened R.Reader.remaining R.was_asked file.now }
 {
     match runtime.metadata(file.as_str()) {
         Ok(found) if !found.is_file() => Err(Fault::CannotOpen),
@@ -88,7 +100,7 @@ fn check_existing<R: ReadsFiles + AllocGlobal>(runtime: &R, file: &Text) -> Resu
 // Whether the log of a database may be read: it was read to its end and is not damaged, or what is
 // behind the damage may be lost.
 fn is_readable<R: ReadsFiles + AllocGlobal>(runtime: &R, files: BookFile<'_>) -> bool
-    ensures { result ≡ true → IsReadable R.leads_to R.was_opened R.Reader.remaining
+    ensures { result ≡ true → IsReadable R.leads_to R.was_opened R.Reader.remaining R.was_asked
         files.entry.database.now files.entry.loses_commits }
 {
     if files.loses_commits {
@@ -102,7 +114,10 @@ fn is_readable<R: ReadsFiles + AllocGlobal>(runtime: &R, files: BookFile<'_>) ->
 
 // Whether the log of a database has a frame. If there is no memory for its name, it counts as
 // having one.
-fn has_log<R: ReadsFiles + AllocGlobal>(runtime: &R, file: &Text) -> bool {
+fn has_log<R: ReadsFiles + AllocGlobal>(runtime: &R, file: &Text) -> bool
+    ensures { result ≡ false → (log : List ℕ) × IsLogOf R.leads_to file.now log
+        × WasSaidOf R.leads_to R.was_opened R.Reader.remaining R.was_asked log HasNoFrame }
+{
     let Ok(log) = log_name(runtime, runtime.alloc(), file.as_str()) else {
         return true;
     };

@@ -1,6 +1,6 @@
 //! The commands that make a book: a new one, a current one from an older one, or one with more
 //! plans.
-ghost use Rattle.std.specs.Prelude.{◌≢◌, ◌≡◌, IfOk, IfErr, OnOk};
+ghost use Rattle.std.specs.Prelude.{◌≢◌, ◌≡◌, is_some, IfOk, IfErr, OnOk};
 ghost use Rattle.std.specs.Io.KnownBytes.{Appends};
 ghost use Rattle.sqlite_wal.specs.Files.{image_at};
 ghost use Rattle.acct_program_jobs.specs.inner.Files.{sums_of};
@@ -40,13 +40,13 @@ impl Making {
         Making::New { has_sums }
     }
 
-    /// Whether each page of a new book is to end in a sum; none if no new book is made.
-    pub(crate) fn sums(self) -> Option<bool>
-        ensures { result ≡ sums_of self }
+    /// Whether a new book is made.
+    pub(crate) fn makes_new(self) -> bool
+        ensures { result ≡ is_some (sums_of self) }
     {
         match self {
-            Making::New { has_sums } => Some(has_sums),
-            Making::Migrated | Making::Extended => None,
+            Making::New { .. } => true,
+            Making::Migrated | Making::Extended => false,
         }
     }
 }

@@ -58,7 +58,7 @@ pub(crate) trait Work<W: Write> {
             (W.contents output.new) };
 }
 
-/// `import` at a moment, in seconds since 1970.
+/// `import` by a clock.
 #[derive(Drop)]
 pub(crate) struct Import<I: Drop> {
     moment: u64,
@@ -66,11 +66,14 @@ pub(crate) struct Import<I: Drop> {
 }
 
 impl<I: Read + Drop> Import<I> {
-    /// The lines of an input, at a moment.
-    pub(crate) fn at(moment: u64, input: I) -> Import<I>
-        ensures { result ≡ record { moment = moment; input = input } }
+    /// The lines of an input, by what a clock says.
+    pub(crate) fn by(clock: ClockReading, input: I) -> Import<I>
+        ensures { result ≡ record { moment = clock.moment; input = input } }
     {
-        Import { moment, input }
+        Import {
+            moment: clock.moment(),
+            input,
+        }
     }
 }
 

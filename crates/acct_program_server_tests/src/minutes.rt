@@ -82,7 +82,7 @@ fn told(rt: &HostRuntime) -> Result<Option<Vec<u8>>, Fail> {
     let watch = Watch::new(Vec::new(rt.alloc()));
     let mut watched = Watched::new(rt, exchange, Some(watch), no_status(rt));
     let is_done = all_come(&mut watched);
-    let (_, told) = watched.finish();
+    let (_, told) = watched.finish().into_parts();
     Ok(if is_done { told } else { None })
 }
 

@@ -131,7 +131,7 @@ pub fn run_serve<
     let Ok(names) = names else {
         return Err(Fault::NoMemory);
     };
-    let begun = first_rounds(alloc, source, balances, names, config, book, &gauges, noted);
+    let begun = first_rounds(alloc, source, balances, names, book, &gauges, noted);
     let begun = match begun {
         Ok(begun) => begun,
         Err(fault) => return Err(fault),
@@ -196,7 +196,6 @@ fn first_rounds<'r, R: ReplacesFiles, S: SiteSource + Drop, B: Book, E: Write + 
     mut source: S,
     mut balances: Option<KeptBalances<'r, R>>,
     mut names: BookNames<'r, R>,
-    config: &Config,
     book: &mut B,
     gauges: &'r Gauges,
     mut errors: E,
@@ -209,15 +208,7 @@ fn first_rounds<'r, R: ReplacesFiles, S: SiteSource + Drop, B: Book, E: Write + 
     ensures moved { IfErr result (λ told.
         (told ≡ Fault.CannotOpen) × HaveMoved (seen_of names.entry)) }
 {
-    write_first(
-        alloc,
-        &mut source,
-        &mut balances,
-        config,
-        book,
-        gauges,
-        &mut errors,
-    );
+    write_first(alloc, &mut source, &mut balances, book, gauges, &mut errors);
     if names.have_moved(&mut errors) {
         return Err(Fault::CannotOpen);
     }
@@ -229,7 +220,6 @@ fn write_first<'r, R: ReplacesFiles, S: SiteSource, B: Book, E: Write>(
     alloc: Global,
     source: &mut S,
     balances: &mut Option<KeptBalances<'r, R>>,
-    config: &Config,
     book: &mut B,
     gauges: &Gauges,
     errors: &mut E,
@@ -243,7 +233,7 @@ fn write_first<'r, R: ReplacesFiles, S: SiteSource, B: Book, E: Write>(
         (B.is_open book.new)) moment (file_of balances.old) (file_of balances.new) }
 {
     let moment = source.moment();
-    keep_at(alloc, balances, config, book, moment, gauges, errors);
+    keep_at(alloc, balances, book, moment, gauges, errors);
 }
 
 // The watch that logs to a writer what is dropped and how much is received, if there is a writer.

@@ -52,7 +52,7 @@ impl<'r, R: Clock + ReplacesFiles, D: Write + Drop, E: Write + Drop> Watcher<'r,
         } = self;
         let mut watched = Watched::new(clock, exchange, drops, counts);
         let ended = serve_exchange(alloc, rules, book, &mut watched, rounds, turns, output);
-        let (exchange, _drops) = watched.finish();
+        let (exchange, _drops) = watched.finish().into_parts();
         (exchange, ended)
     }
 }

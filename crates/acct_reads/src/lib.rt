@@ -8,7 +8,8 @@
 ghost use Rattle.std.specs.Prelude.{◌≡◌, ℕ, List, Option, Some, None, IfOk, IfErr};
 ghost use Rattle.std.specs.IoError.{error_kind};
 ghost use Rattle.std.specs.Path.{path_buf_bytes};
-ghost use Rattle.acct_reads.specs.Seen.{LeadsTo, WasOpened};
+ghost use Rattle.std.specs.declared.fs.attrs.Metadata.{Metadata};
+ghost use Rattle.acct_reads.specs.Seen.{LeadsTo, WasAsked, WasOpened};
 
 mod book_log;
 
@@ -31,8 +32,13 @@ pub trait ReadsFiles {
     /// The file of this name was opened, or there was none. Only `open` and `metadata` give this.
     ghost was_opened: { List ℕ → Option Self.Reader → Type 0 };
 
+    /// The system said this of the file of this name, or nothing. Only `metadata` gives this.
+    ghost was_asked: { List ℕ → Option Metadata → Type 0 };
+
     /// What the system knows of a file. Symbolic links are followed.
     fn metadata(&self, path: &str) -> io::Result<Metadata>
+        ensures asked { IfOk result (λ found. was_asked path.now (Some found)) }
+        ensures unknown { IfErr result (λ _. was_asked path.now None) }
         ensures missing { IfErr result (λ error.
             error_kind error ≡ ErrorKind.NotFound → was_opened path.now None) };
 
@@ -61,7 +67,9 @@ impl<R: Files> ReadsFiles for R {
 
     ghost was_opened = { WasOpened };
 
-    #[tactic(auto, unfolding(crate::specs::Seen::WasOpened))]
+    ghost was_asked = { WasAsked };
+
+    #[tactic(auto, unfolding(crate::specs::Seen::WasAsked, crate::specs::Seen::WasOpened))]
     fn metadata(&self, path: &str) -> io::Result<Metadata> {
         fs::metadata(self, path)
     }

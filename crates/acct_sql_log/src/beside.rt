@@ -1,6 +1,6 @@
 //! The log of a book in a file.
 ghost use Rattle.std.specs.Prelude.{IfOk};
-ghost use Rattle.acct_sql_log.specs.Beside.{HasFound, IsOpenedLog};
+ghost use Rattle.acct_sql_log.specs.Beside.{HasFound, IsOpenedLog, TellsLost};
 
 use crate::commits::has_later_commits;
 use crate::damage::Damage;
@@ -32,19 +32,23 @@ pub fn damage_beside<R: ReadsFiles>(
 }
 
 /// Whether a log without its book is next to a file: the file is missing or has fewer octets than
-/// the header of a database, and its log has commits that no `init` made. If the log can't be read
-/// to its end, it counts as having some. If it isn't there or can't be opened, it counts as having
-/// none: the open of the book reports that. It writes nothing.
-pub fn has_lost_book<R: ReadsFiles>(runtime: &R, alloc: Global, file: &str) -> bool {
-    let is_there = runtime
-        .metadata(file)
-        .is_ok_and(|found| found.len() >= DATABASE_HEADER_OCTETS);
-    if is_there {
-        return false;
+/// the header of a database, and its log has commits that no `init` made. No log has none. It
+/// writes nothing.
+///
+/// # Errors
+///
+/// Those of `damage_beside`.
+pub fn has_lost_book<R: ReadsFiles>(runtime: &R, alloc: Global, file: &str) -> Result<bool, Unread>
+    ensures { IfOk result (TellsLost R.leads_to R.was_opened R.Reader.remaining R.was_asked
+        file.now) }
+{
+    match runtime.metadata(file) {
+        Ok(found) if found.len() >= DATABASE_HEADER_OCTETS => return Ok(false),
+        Ok(_) | Err(_) => {}
     }
-    match opened_log(runtime, alloc, file) {
-        Ok(Some(mut log)) => has_later_commits(alloc, &mut log).unwrap_or(true),
-        _ => false,
+    match opened_log(runtime, alloc, file)? {
+        Some(mut log) => has_later_commits(alloc, &mut log),
+        None => Ok(false),
     }
 }
 

@@ -252,7 +252,10 @@ pub fn topup_at(alloc: Global, columns: &sqlite::Row) -> Result<TopUp, Refused>
     let account = octets_at(columns, 1)?;
     let sum = count_at(columns, 2)?;
     let when = moment_at(columns, 3)?;
-    Ok(TopUp::new(alloc, number.as_str(), account.as_slice(), sum, when)?)
+    match TopUp::new(alloc, number.as_str(), account.as_slice(), sum, when) {
+        Ok(topup) => Ok(topup),
+        Err(_) => Err(Refused),
+    }
 }
 
 /// The class of a plan of a row that has only this.

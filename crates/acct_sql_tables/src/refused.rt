@@ -1,5 +1,4 @@
 //! Why a statement was not run.
-use acct_model::TopUpError;
 use sqlite::Error;
 use std::alloc::{AllocError, AllocFailed};
 
@@ -15,12 +14,6 @@ impl From<Error> for Refused {
 
 impl From<AllocError> for Refused {
     fn from(_error: AllocError) -> Refused {
-        Refused
-    }
-}
-
-impl From<TopUpError> for Refused {
-    fn from(_error: TopUpError) -> Refused {
         Refused
     }
 }

@@ -34,6 +34,10 @@ module _ {S : Type 0} where
   abbrev pub IsAt : List (Option (Caller S)) → ℕ → Caller S → Type 0
   IsAt places place caller = slice_get places place ≡ Some (Some caller)
 
+  -- a caller has this place
+  abbrev pub HasCaller : List (Option (Caller S)) → ℕ → Type 0
+  HasCaller places place = (caller : Caller S) × IsAt places place caller
+
   -- the caller who has this place is ready
   abbrev pub IsReadyAt : List (Option (Caller S)) → ℕ → Type 0
   IsReadyAt places place =

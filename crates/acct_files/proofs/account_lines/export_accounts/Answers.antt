@@ -17,7 +17,7 @@ returns-clause-text g c =
     (λ after kept. IsNextBalance content (shown after)
     (option_map (λ (k : Vec ℕ Global × ℤ). (k.0.items, k.1)) kept))
     (λ k. k.0) shown (λ k. k.0.items) (λ k. k.1) (λ _ _ found. found) (λ _ end. end) (λ _. refl)
-    g.W.Write.contents (g.B.Book.is_open c.write_members.new.book)
+    (λ done. g.W.Write.contents done.0) (λ done. done.1) (g.B.Book.is_open c.write_members.new.book)
     (g.W.Write.contents c.args.writer) (account_header what) (λ e. account_line what e.0 e.1)
     ((walks-meet-all content).balances None) refl c.write_members.result
     c.write_members.ensures.text

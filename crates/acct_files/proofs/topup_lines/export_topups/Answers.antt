@@ -13,7 +13,7 @@ returns-clause-text g c =
     let number = λ (topup : TopUpFacts). topup.voucher in
     exported octets_cmp content.topups (IsNextTopUp content) number (λ after. after) number
     (λ (topup : TopUpFacts). topup) (λ _ _ found. found) (λ _ end. end) (λ _. refl)
-    g.W.Write.contents (g.B.Book.is_open c.write_members.new.book)
+    (λ done. g.W.Write.contents done.0) (λ done. done.1) (g.B.Book.is_open c.write_members.new.book)
     (g.W.Write.contents c.args.writer) topup_header (λ e. line (topup_fields e.1))
     ((walks-meet-all content).topups None) refl c.write_members.result
     c.write_members.ensures.text

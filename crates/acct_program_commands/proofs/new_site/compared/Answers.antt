@@ -19,8 +19,14 @@ differ own in_force plan Other (inl is) same =
 differ own in_force plan Other (inr is) same =
     is.0.1 (All-contains (Contains own) in_force plan same.0 is.0.0)
 
-pub returns-in-Some-clause-current : goal.returns-in-Some-clause-current
-returns-in-Some-clause-current c = (
+pub returns-in-Ok-clause-current : goal.returns-in-Ok-clause-current
+returns-in-Ok-clause-current c = (
+  λ never. absurd (true≢false (sym never)),
+  λ same. absurd (differ _ _ _ _ c.in-Some.ensures.some same),
+)
+
+pub returns-in-Err-clause-current : goal.returns-in-Err-clause-current
+returns-in-Err-clause-current c = (
   λ never. absurd (true≢false (sym never)),
   λ same. absurd (differ _ _ _ _ c.in-Some.ensures.some same),
 )

@@ -9,9 +9,9 @@ returns-in-Serve-clause-does g c = rw c.in-Serve.is (c.serve_files.ensures.does 
 
 pub returns-in-Import-clause-does : goal.returns-in-Import-clause-does
 returns-in-Import-clause-does g c = rw c.in-Import.is (
-  c.moment_of.result,
-  c.moment_of.ensures,
-  rw c.at-import.ensures at c.work_on.ensures.does,
+  c.read_clock.result.moment,
+  c.read_clock.ensures,
+  rw c.by-import.ensures at c.work_on.ensures.does,
 )
 
 pub returns-in-Export-clause-does : goal.returns-in-Export-clause-does

@@ -8,5 +8,5 @@ returns-clause-adopted g c = c.taken.ensures.adopted _ c.in_ok-connection.ensure
 pub returns-clause-refused : goal.returns-clause-refused
 returns-clause-refused g c = c.taken.ensures.refused _ c.in_ok-connection.ensures.found
 
-pub returns-clause-readable : goal.returns-clause-readable
-returns-clause-readable g c = however_it_ended _ c.in-Ok.ensures.readable c.taken.result
+pub returns-clause-seen : goal.returns-clause-seen
+returns-clause-seen g c = however_it_ended _ c.in-Ok.ensures.seen c.taken.result

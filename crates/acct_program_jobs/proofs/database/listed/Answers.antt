@@ -8,5 +8,5 @@ returns-clause-kept g c = c.kept_in.ensures.kept _ c.in_ok-connection.ensures.fo
 pub returns-clause-refused : goal.returns-clause-refused
 returns-clause-refused g c = c.kept_in.ensures.refused _ c.in_ok-connection.ensures.found
 
-pub returns-clause-readable : goal.returns-clause-readable
-returns-clause-readable g c = however_it_ended _ c.in-Ok.ensures.readable c.kept_in.result
+pub returns-clause-seen : goal.returns-clause-seen
+returns-clause-seen g c = however_it_ended _ c.in-Ok.ensures.seen c.kept_in.result

@@ -7,5 +7,6 @@ returns-clause-made g c = c.made_of.ensures.made _ c.in_ok-connection.ensures.fo
 pub returns-clause-refused : goal.returns-clause-refused
 returns-clause-refused g c = c.made_of.ensures.refused _ c.in_ok-connection.ensures.found
 
-pub returns-clause-readable : goal.returns-clause-readable
-returns-clause-readable g c = however_it_ended _ c.in-Ok.ensures.readable c.made_of.result
+pub returns-clause-seen : goal.returns-clause-seen
+returns-clause-seen g c =
+    however_it_ended _ (rw c.makes_new-is_new.ensures at c.in-Ok.ensures.seen) c.made_of.result
