@@ -78,7 +78,7 @@ class Followed(unittest.TestCase):
                 file.write('al,secret,fast\n"Müller b","1, 2",fast\nbo,other,\n')
             for command, there in ((put, ["al", "Müller b", "bo"]),
                                    (remove.partition("\necho ")[0], ["Müller b", "bo"])):
-                command = re.sub("(setsid --wait )?runuser -u radacctd-site -- ", "", command)
+                command = re.sub("setsid -w runuser -u radacctd-site -- ", "", command)
                 command = command.replace("/var/lib/radacctd-site/", "")
                 subprocess.run(["sh", "-ec", command], cwd=folder, check=True)
                 rows = users.execute("SELECT * FROM radcheck JOIN radusergroup USING (username)")

@@ -63,7 +63,7 @@ def oldest_kept(folder):
     """
     _, said = machine.run(*machine.as_user(places.RADIUS_USER), "find", folder, "-type", "f",
                           "-exec", "grep", "-hm1", "Timestamp = ", "{}", "+")
-    return min(map(int, re.findall(r"(?m)^\tTimestamp = (\d+)$", said)), default=None)
+    return min(map(int, re.findall(r"(?m)^\tTimestamp = (\d{1,10})$", said)), default=None)
 
 
 def waits(folder, name, whom, cure):

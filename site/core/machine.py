@@ -97,16 +97,14 @@ def journal(unit):
 
 def as_user(user):
     """What runs a command as a user, without root's terminal. `ran` gives it no environment of
-    root's, and no other open file.
-    """
+    root's, and no other open file."""
     return ["setsid", "--wait", "setpriv", "--reuid", user, "--regid", user, "--clear-groups",
             "--no-new-privs", "--"]
 
 
 def text_of(user, path):
     """The text of a file in a folder of a user's, which that user reads; "" if there is none. No
-    link is followed, and a pipe in its place is not waited for.
-    """
+    link is followed, and a pipe in its place is not waited for."""
     done = ran([*as_user(user), "dd", f"if={path}", "iflag=nonblock,nofollow", "bs=64K",
                 "count=1024", "status=none"])
     if done.returncode and "No such file" not in done.stderr:
@@ -126,8 +124,7 @@ def has_open(process, path):
 
 def is_away(unit="radacctd.service"):
     """Whether the book or the log of a server that runs is not where its name leads: it answers
-    nothing, and what was removed ends with it.
-    """
+    nothing, and what was removed ends with it."""
     def is_there():
         found = properties(unit, "ActiveState", "MainPID")
         return found["ActiveState"] not in ("active", "reloading") or all(

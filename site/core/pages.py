@@ -4,7 +4,7 @@ import re
 
 import bottle
 
-from radacctd_site.core import features, people, places, web
+from radacctd_site.core import features, files, people, places, web
 from radacctd_site.core.web import COOKIE, TOP, set_cookie
 
 
@@ -39,7 +39,6 @@ def log_out(visit):
 def style(_):
     """The kit's own style, with the colour of the house if the settings have one."""
     bottle.response.content_type = "text/css"
-    with open(f"{TOP}/core/site.css", encoding="utf-8") as file:
-        found = file.read()
+    found = files.text(f"{TOP}/core/site.css")
     colour = places.settings().get("colour", "")
     return found.replace("#0a4f96", colour) if re.fullmatch("#[0-9a-fA-F]{6}", colour) else found

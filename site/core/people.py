@@ -100,11 +100,10 @@ def forget_try(db, kind, *whats):
 
 def logged_in(db, name, password, address):
     """The token of a new session, "" if name or password are wrong, None after too many tries.
-    Where a person has logged in before, tries from elsewhere by that name do not count.
-    """
+    Where a person has logged in before, tries from elsewhere by that name do not count."""
     place = name, network_of(address)
     is_known = db.execute("SELECT 1 FROM place WHERE (name, network) = (?, ?)", place).fetchone()
-    whats = place[1:] if is_known else (name[:64], place[1])
+    whats = place[1:] if is_known else (f"of {name[:64]}", place[1])
     if not may_try(db, "login", *whats):
         return None
     if not is_password(db, name, password):

@@ -6,7 +6,7 @@ A password is read from standard input, or asked for. Whoever gets a new one is 
 import getpass
 import sys
 
-from radacctd_site.core import Failed, people, places, store
+from radacctd_site.core import Failed, cli, people, places, store
 from radacctd_site.core.features import CASHIER, OPERATOR
 
 
@@ -39,5 +39,5 @@ def main(words):
                 raise Failed(f"nobody is called {words.name}")
         else:
             for row in db.execute("SELECT name, role FROM person ORDER BY name"):
-                print(f"{row['name']}: {row['role']}")
+                print(cli.plain(f"{row['name']}: {row['role']}"))
     return 0

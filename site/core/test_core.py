@@ -166,6 +166,8 @@ class Logins(Site):
         self.assertEqual([log_in(1), log_in(1, "bert")], [303, 303])
         for at in range(2, 7):
             self.assertEqual(log_in(at, password="wrong"), 403)
+            # A name that is an address is none.
+            self.assertEqual(log_in(at, "192.0.2.1", "wrong"), 403)
         self.assertEqual([log_in(7), log_in(1)], [429, 303])
         self.assertEqual([log_in(1, password="wrong") for _ in range(6)], [403] * 5 + [429])
         self.assertEqual(log_in(1), 429)

@@ -7,7 +7,7 @@ guests redeemed have no cashier.
 import datetime
 import time
 
-from radacctd_site.core import acts, money, names, places, store
+from radacctd_site.core import acts, cli, money, names, places, store
 
 COLUMNS = ("moment", "number", "account", "what", "cashier", "credit", "paid", "state")
 
@@ -33,8 +33,8 @@ def main(words):
         return 0
     for it in days:
         sold, back, net = map(site.shown, (it["sold"], -it["back"], it["net"]))
-        print(f"{it['day']}  {it['who'] or 'vouchers':16} {it['count']:5} sales  sold {sold}, "
-              f"taken back {back}, net {net}")
+        print(f"{it['day']}  {cli.plain(it['who'] or 'vouchers'):16} {it['count']:5} sales  "
+              f"sold {sold}, taken back {back}, net {net}")
     if waiting := sum(acts.state_of(it) == acts.WAITING for it in rows):
         print(f"{waiting} have no answer yet: they are in no sum")
     return 0

@@ -32,7 +32,8 @@ def servers(text):
     network all members are asked: those without that session refuse."""
     found = {}
     for name, block in BLOCK.findall(text):
-        for host in value(block, "members").split() or [value(block, "ip(?:v[46])?addr")]:
+        own = value(block, "ip(?:v[46])?addr")
+        for host in re.findall("[^ ,]+", value(block, "members")) or [own]:
             with contextlib.suppress(ValueError):
                 address = ipaddress.ip_address(host)
                 it = {key: value(block, key) for key in ("secret", "user_name")}

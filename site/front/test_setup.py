@@ -69,8 +69,11 @@ class CutOff(unittest.TestCase):
             b"\n\0\0\3": ["10.0.0.3:1700"], b"roof 1": ["[fd00::1]:3799"],
             b"\xfd" + bytes(14) + b"\1": ["[fd00::1]:3799"]})
         self.assertRegex(found[b"attic"][0]["secret"], "^[0-9a-f]{32}$")
+        self.assertEqual(cut.servers(text), cut.servers(text.replace("10.0.2.1 10", "10.0.2.1, 10")))
         for old, new, count in (("", "", 0), ("members", "#", 1), ("cut = 1700", "cut = no", 0),
-                                (", cut = 1700", "", 1)):
+                                (", cut = 1700", "", 1), ("cut = 1700", "cut = yes", 1),
+                                ("10.0.2.1 10.0.2.2", "10.0.2.1, 10.0.2.2", 0),
+                                ("10.0.2.1 10.0.2.2", "ap1.lan ap2.lan", 1)):
             with mock.patch.object(files, "text", lambda _, it=text.replace(old, new): it):
                 self.assertEqual(len([*looks.access_servers()]), count, new)
 

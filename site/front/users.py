@@ -47,7 +47,8 @@ def password(path):
 
 def sql(text):
     """What SQL prints, which the user does whose file it is."""
-    return machine.given([*machine.as_user(places.USER), "sqlite3", "-bail", FILE], text, 60)
+    words = [*machine.as_user(places.USER), "sqlite3", "-safe", "-bail", FILE]
+    return machine.given(words, text, 60)
 
 
 def rows(table):

@@ -1,6 +1,6 @@
 """Prints what the book has of an account: its balance, what was credited, its sessions."""
 
-from radacctd_site.core import Failed, accounts, acts, moment, money, names, places, store
+from radacctd_site.core import Failed, accounts, acts, cli, moment, money, names, places, store
 
 
 def arguments(it):
@@ -17,8 +17,8 @@ def main(words):
     print(f"balance {site.shown(known[octets])} ({moment(written)})")
     with store.opened() as db:
         for it in acts.of_account(db, names.for_desk(octets)):
-            print(f"{moment(it['answered'])}  {it['kind']:8} {it['number']:24} "
-                  f"{site.shown(it['sum'])}  {it['who']}")
+            print(cli.plain(f"{moment(it['answered'])}  {it['kind']:8} {it['number']:24} "
+                            f"{site.shown(it['sum'])}  {it['who']}"))
     for it in accounts.told(book, octets, accounts.SESSIONS) or ():
         print(f"{moment(it['last'])}  {it['state']:8} {it['client']} {it['calling']}  "
               f"{it['total']:,} octets, {site.shown(int(it['charged']))}")

@@ -37,8 +37,7 @@ def key():
 
 def drawn(digest_key, package, code, who, name="", sheet=""):
     """The login of a code: its name in the tables is a digest, its account a serial number. Or that
-    of a name, with letters of the code as password.
-    """
+    of a name, with letters of the code as password."""
     digest = hashlib.sha256((digest_key + code.replace("-", "")).encode()).hexdigest()
     return Login(name or f"c-{digest[:12]}", name or digest, code[:11].lower() if name else code,
                  package.name, package.sum, f"P-{digest[:24].upper()}", sheet, who,
@@ -65,7 +64,7 @@ def whose(db, text):
 
 def make(db, book, made):
     """Makes logins, and sells each by one credit. One that is there already stays as it is."""
-    taken = users.names()[0]
+    taken = users.names(users.PAYERS)[0]
     for it in (it.name for it in made if it.name == it.account):
         # The book says whose a name is: its file of balances may be an hour old.
         asked = accounts.SESSIONS, accounts.TOPUPS
@@ -96,7 +95,8 @@ def is_new(db, it, taken):
     """Whether a login is to be made. Ends if FreeRADIUS, the book or a login has its name."""
     if db.execute("SELECT 1 FROM login WHERE number = ?", (it.number,)).fetchone():
         return False
-    had = db.execute("SELECT 1 FROM login WHERE account = ?1 OR name = ?1", (it.account,))
+    had = db.execute("SELECT 1 FROM login WHERE account = ?1 OR name = ?1 UNION "
+                     "SELECT 1 FROM act WHERE account = ?2", (it.account, act_of(it).account))
     if had.fetchone() or it.name in taken:
         raise Failed(f"{it.account} is there already, or was: nothing was sold. Give another name")
     return True

@@ -178,6 +178,14 @@ class Selling(Packages):
         self.book.credits["V-1"] = "al", 5
         self.assertRaisesRegex(Failed, "was", self.make, name="al")
         del self.book.credits["V-1"]
+        # Who pays for another login, and who waits for what was sold at the desk.
+        with users.opened() as db:
+            db.execute("INSERT INTO radcheck (username, attribute, op, value) VALUES "
+                       "('al@x.org', 'Front-Payer', ':=', 'al')")
+        self.assertRaisesRegex(Failed, "was", self.make, name="al")
+        with self.db:
+            acts.begin(self.db, [acts.Act("D-9", "b o", 500, "desk", "anna", 500)])
+        self.assertRaisesRegex(Failed, "was", self.make, name="b o")
         self.book.is_away = True
         self.assertRaisesRegex(Failed, "whose", self.make, name="bo")
         self.assertEqual(len(self.book.credits), 1)
@@ -243,7 +251,7 @@ class Selling(Packages):
         with mock.patch.object(users, "PATIENCE", 0.1), contextlib.redirect_stderr(io.StringIO()):
             self.assertRaisesRegex(Failed, "users.db cannot be used", self.make)
             self.assertEqual(self.book.asked, [])
-            with mock.patch.object(users, "names", lambda: (set(), set())):
+            with mock.patch.object(users, "names", lambda *_: (set(), set())):
                 one = self.make()
             self.assertEqual(self.state(one.account), "waiting")
             self.assertRaises(Failed, logins.end, self.db, [one.account])

@@ -20,6 +20,7 @@ TABLES = {
     "radgroupcheck": ("package", "groupname, attribute, op, value"),
     "radgroupreply": ("package", "groupname, attribute, op, value"),
 }
+PAYERS = "UNION SELECT value FROM radcheck WHERE attribute = 'Front-Payer'"
 
 
 def path():
@@ -29,8 +30,7 @@ def path():
 @contextlib.contextmanager
 def opened():
     """A connection, which begins no transaction by itself. It takes back what a writer left
-    who was killed: FreeRADIUS' user may not, and refuses logins until then.
-    """
+    who was killed: FreeRADIUS' user may not, and refuses logins until then."""
     with told(Failed, f"{path()} cannot be used: ", sqlite3.Error):
         place = f"{pathlib.Path(path()).as_uri()}?mode=rw"
         found = sqlite3.connect(place, uri=True, timeout=PATIENCE, isolation_level=None)
@@ -42,8 +42,7 @@ def put(wanted_now):
     """Gives names the rows that they are to have, and no others, in one transaction.
 
     `wanted_now` says of each table whose names are the site's, and their rows. It is asked once no
-    other writer has the file: so the last of two writes what both have changed.
-    """
+    other writer has the file: so the last of two writes what both have changed."""
     with opened() as users:
         users.execute("BEGIN IMMEDIATE")
         names, rows = wanted_now()
@@ -58,10 +57,10 @@ def put(wanted_now):
         users.execute("COMMIT")
 
 
-def names():
-    """Each name that has a row now, and each group."""
+def names(more=""):
+    """Each name that has a row now, and each group; PAYERS are those who pay for one."""
     with opened() as users:
         found = [{it for table, (whose, columns) in TABLES.items() if whose == kind
-                  for it, in users.execute(f"SELECT {columns.split(',')[0]} FROM {table}")}
+                  for it, in users.execute(f"SELECT {columns.split(',')[0]} FROM {table} {more}")}
                  for kind in ("login", "package")]
     return found

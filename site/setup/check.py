@@ -18,7 +18,7 @@ def looked(side, name="not-seen", cure="mend it, and look again"):
         with machine.within(LONGEST):
             for it in side():
                 found.append(it)
-    except (Failed, OSError, ValueError, LookupError) as why:
+    except (Failed, OSError, ValueError, LookupError, ArithmeticError) as why:
         found.append(Fault(name, cli.reason(why), cure))
     return found
 

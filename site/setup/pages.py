@@ -114,7 +114,7 @@ def settings(old, answers):
 
 def persons():
     """Each login, with its role."""
-    return machine.given([places.RADACCTL, "person", "list"]).splitlines()
+    return machine.given([places.RADACCTL, "person", "list"], seconds=60).splitlines()
 
 
 def make_person(name, role):

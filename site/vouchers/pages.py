@@ -33,7 +33,7 @@ def redeem(visit):
     if not people.may_try(visit.db, "code", address):
         return asked(visit, account, code, visit.text("Too many tries: wait a minute."), 429)
     said, total = vouchers.redeem(visit.db, places.book(), names.octets_typed(account), code)
-    if said != "no such code":
+    if said in (NEW, REPEAT):
         people.forget_try(visit.db, "code", address)
     text, status = text_of(visit, said, account, total)
     return asked(visit, account, "" if status == 200 else code, text, status)

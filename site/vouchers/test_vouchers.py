@@ -210,6 +210,8 @@ class GuestsPage(Sheet):
         self.assertEqual(self.sure(browser, "al", self.codes[0]), 429)
         other = Browser(self.app, address="192.0.2.9")
         self.assertEqual([self.sure(other, "al", it) for it in self.codes * 2], [200] * 8)
+        found = [self.sure(other, f"bo {it}", self.codes[0]) for it in range(6)]
+        self.assertEqual(found, [409] * 5 + [429])
 
     def test_only_if_site_db_cannot_be_written_before_nothing_was_sent(self):
         browser = Browser(self.app)
