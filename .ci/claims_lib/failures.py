@@ -1,7 +1,9 @@
 """Each failure that a body of the product names, of which docs/proofs/AUDIT.md has a table: a clause
-that allows a failure allows a body that always fails. What a pattern compares is not named.
+that allows a failure allows a body that always fails. What a pattern compares is not named. The table
+has a sum of the bodies of each source: one that fails at one size more is another body.
 """
 
+import hashlib
 import re
 
 from claims_lib.openers import is_of_program
@@ -47,15 +49,20 @@ def mentions_in(body):
 
 
 def counted(text):
-    """How many failures each function makes by itself, and how many of a source are passed on."""
-    own, passed = {}, 0
+    """How many failures each function makes by itself, how many of a source are passed on, and a sum
+    of the bodies that name one or ask with `?`.
+    """
+    own, passed, named = {}, 0, []
     for name, body in bodies_of(re.sub(r'"(?:[^"\\]|\\.)*"', '""', text)):
-        for is_passed in mentions_in(body):
+        found = list(mentions_in(body))
+        named += [body] if found or "?" in body else []
+        for is_passed in found:
             # A conversion is asked by `?`, of what a call gave.
             is_passed = is_passed or name == "from"
             passed += is_passed
             own[name] = own.get(name, 0) + (not is_passed)
-    return {name: count for name, count in own.items() if count}, passed
+    seen = hashlib.sha256("\n".join(named).encode()).hexdigest()[:8]
+    return {name: count for name, count in own.items() if count}, passed, seen
 
 
 def rows(checker):
@@ -63,10 +70,11 @@ def rows(checker):
         text = without_comments(text_of(path))
         for found in RENAMED.finditer(text):
             checker.find(1, f"{path}: {found[1] or found[2]}: another name of a failure")
-        own, passed = counted(text)
+        own, passed, seen = counted(text)
         if own or passed:
             told = [f"`{name}` {count}" for name, count in own.items()]
             told += [f"{passed} passed on"] if passed else []
+            told += [f"seen as {seen}"]
             yield f"- `{path.removeprefix('crates/')}`: {', '.join(told)}"
 
 

@@ -149,7 +149,7 @@ COUNTED = (
     ),
     (
         "names of a way to make a book",
-        re.compile(r"\bMaking::\w+"),
+        re.compile(r"\bMaking::\w+|\bSelf::(?:New|Migrated|Extended)\b"),
         {JOBS + "command.rt": 3, JOBS + "database.rt": 6, JOBS + "making.rt": 7},
     ),
 )
