@@ -50,7 +50,7 @@ def mentions_in(body):
 
 def counted(text):
     """How many failures each function makes by itself, how many of a source are passed on, and a sum
-    of the bodies that name one or ask with `?`.
+    of the bodies that name one or ask with `?`, if there is one.
     """
     own, passed, named = {}, 0, []
     for name, body in bodies_of(re.sub(r'"(?:[^"\\]|\\.)*"', '""', text)):
@@ -61,7 +61,7 @@ def counted(text):
             is_passed = is_passed or name == "from"
             passed += is_passed
             own[name] = own.get(name, 0) + (not is_passed)
-    seen = hashlib.sha256("\n".join(named).encode()).hexdigest()[:8]
+    seen = named and hashlib.sha256("\n".join(named).encode()).hexdigest()[:8]
     return {name: count for name, count in own.items() if count}, passed, seen
 
 
@@ -71,7 +71,7 @@ def rows(checker):
         for found in RENAMED.finditer(text):
             checker.find(1, f"{path}: {found[1] or found[2]}: another name of a failure")
         own, passed, seen = counted(text)
-        if own or passed:
+        if seen:
             told = [f"`{name}` {count}" for name, count in own.items()]
             told += [f"{passed} passed on"] if passed else []
             told += [f"seen as {seen}"]
