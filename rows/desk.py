@@ -247,7 +247,7 @@ def keys(folder):
     check("and one of each size", made, [key_of("n" * it, 1000) + "\n" for it in range(1, 254)])
 
 
-def login(account, octets, name="gold", counted="total", going=6, others=None, digits=""):
+def login(account, octets, name="gold", counted="total", going=4, others=None, digits=""):
     stamp = sealed(f"{name};{digits};{account};", "stamp;")
     return page(counted=counted, octets=octets, open=going, stamp=stamp, stations=others)
 
@@ -274,11 +274,8 @@ LOGINS = [
         "al/gold/-/x/12345678901", "al/gold/-/x/-1", "al/gold/-/x/-", f"{'f' * 254}/gold",
         f"{LONGEST}e/night")),
     *((it, NO_PATH) for it in ("", "al", "al/gold/-/x", "al/gold/-/x/1/"))]
-# What is behind a session's own id: of a login, or of reports without a stamp.
-STATIONS = [(b"/0a9f/al", b"02-00-5e-01", 10, 0), (b"/1/al", b"02-00-5e-02", 2500, 0),
-            (b"/2/al", b"", 5, 0), (b"/0a9f/al", b"02-00-5e-01", 1, 0),
-            (b"/3/al", b"02-00-5e-05", 2, 2), (b"/4/al", b"02-00-5e-06", 3, 1),
-            (b"//al", b"02-00-5e-07", 4, 0), (b"", b"02-00-5e-08", 6, 0)]
+STATIONS = [(b"02-00-5e-01", 10, 0), (b"02-00-5e-02", 2500, 0), (b"", 5, 0), (b"02-00-5e-01", 1, 0),
+            (b"02-00-5e-05", 2, 2), (b"02-00-5e-06", 3, 1)]
 # `bo` has 0, `eve` no open session, and what is behind an id may be its own.
 BELOW = [("ap1", b"s1//ann", b"ann", 0), ("ap1", b"s2//ann", b"ann", 2), ("ap1", b"s3", b"bo", 0),
          ("hall/nlobby%201", b"a/b/0a9f/ann", b"ann", 0), ("ap1", b"s4/0G/c%00d", b"c\0d", 0),
@@ -301,8 +298,8 @@ WALK = [*((it, page(next=None, sessions=found)) for it, found in (
 def front(folder):
     """Logins with their stamps, and the open sessions of accounts below 0."""
     now = int(time.time())
-    heard = [("ap1", b"h%d%s" % (at, name), b"al", state, now - ago, calling)
-             for at, (name, calling, ago, state) in enumerate(STATIONS)]
+    heard = [("ap1", b"h%d" % at, b"al", state, now - ago, calling)
+             for at, (calling, ago, state) in enumerate(STATIONS)]
     left = [("al", 125), ("ann", -5), ("bo", 0), ("c\0d", -1), ("eve", -9), ("poor", 9),
             ("rich", 1024), (LONGEST, 7), *((f"p{it}", 1 << it) for it in range(4, 53))]
     with site(folder, ALL, left, [], heard + BELOW) as server:
@@ -343,7 +340,7 @@ def many(folder):
     ends = (b"b1", 1000), (b"d1", 999), (b"d2", 1), (b"f1", size)
     heard = [("ap1", name + b"s%d" % it, name, 2 if it else 0) for name, most in ends
              for it in range(most)]
-    heard += [("ap2", b"%d/f/q" % it, b"q", 0, 2600, b"%d" % it) for it in range(size)]
+    heard += [("ap2", b"%d" % it, b"q", 0, 2600, b"%d" % it) for it in range(size)]
     heard += [("ap3", b"s%05d" % it, b"al", 2) for it in range(size)]
     left = [*((it, -5) for it in ("b1", "d1", "d2", "f1")), ("q", 125), ("rich", 1 << 62), ("z", 1),
             *((f"o{it}", -it if it % 2 else it) for it in range(2 * size)),

@@ -202,12 +202,9 @@ class Book:
             return 402, {"error": "no balance"}
         now, seconds = int(time.time()), seconds and seconds.decode()
         rows = self.rows(
-            "SELECT station, last, id FROM session WHERE account = ? AND state = 'open'", account
+            "SELECT station, last FROM session WHERE account = ? AND state = 'open'", account
         )
-        # A session of reports without a stamp is of no login.
-        rows_of_logins = [it for it in rows if re.search(rb"/[0-9a-f]+/[^/]*$", it[2])]
-        since = now - int(seconds or 0)
-        others = {s for s, last, _ in rows_of_logins if s != station and last >= since}
+        others = {s for s, last in rows if s != station and now - last <= int(seconds or 0)}
         return 200, {
             "counted": {"in": "in", "out": "out"}.get(rule.get("count"), "total"),
             "octets": min(money // rule["unit"] * rule["block"], (1 << 63) - 1)

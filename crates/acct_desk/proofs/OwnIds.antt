@@ -13,9 +13,9 @@ use Rattle.acct_model.specs.declared.stamp.Stamp.{Stamp}
 use Rattle.acct_model.specs.Coded.{coded}
 use Rattle.acct_model.specs.Stamps.{is_login, is_login_digit, stamped_session}
 use Rattle.acct_book.proofs.Keys.{octets_refl}
-use Rattle.acct_desk_pages.specs.SessionNames.{cut_last, cut_last_by, without_end, before_login}
-use Rattle.acct_desk_pages.specs.SessionNames.{before_payer, behind_last, login_before, payer_end}
-use Rattle.acct_desk.specs.LoginLaws.{IdsAreRead, LoginsAreSeen}
+use Rattle.acct_desk_pages.specs.Overdrawn.{cut_last, cut_last_by, without_end, before_login}
+use Rattle.acct_desk_pages.specs.Overdrawn.{before_payer, own_id}
+use Rattle.acct_desk.specs.LoginLaws.{IdsAreRead}
 
 abbrev Lacks : List ℕ → Type 0
 Lacks list = All (λ o. o ≡ 47 → ⊥) list
@@ -48,23 +48,13 @@ cut_at : (id login : List ℕ) → Lacks login → cut_last (id ++ 47 ∷ login)
 cut_at [] login lacks = ap (cut_last_by 47 login) (cut_none login lacks)
 cut_at (o ∷ id) login lacks = ap (cut_last_by o (id ++ 47 ∷ login)) (cut_at id login lacks)
 
--- what is before the payer in the name of a session
-before_end : (id : List ℕ) (stamp : Stamp)
-    → without_end (payer_end stamp.name) (stamped_session id stamp)
-    ≡ Some (id ++ 47 ∷ stamp.login)
-before_end id stamp =
-    let end = 47 ∷ (coded stamp.name ++ []) in
-    ap (without_end end) (sym (append_assoc id (47 ∷ stamp.login) end))
-    ∙ without_end_of (id ++ 47 ∷ stamp.login) end
-
 pub ids_are_read : IdsAreRead
 ids_are_read id stamp fits =
     let session = stamped_session id stamp in
-    ap (before_payer session) (before_end id stamp)
+    let front = id ++ 47 ∷ stamp.login in
+    let end = 47 ∷ (coded stamp.name ++ []) in
+    ap (before_payer session)
+    (ap (without_end end) (sym (append_assoc id (47 ∷ stamp.login) end))
+    ∙ without_end_of front end)
     ∙ ap (before_login session) (cut_at id stamp.login (login_lacks stamp.login fits))
     ∙ ap (λ b. cond b id session) fits
-
-pub logins_are_seen : LoginsAreSeen
-logins_are_seen id stamp fits =
-    ap login_before (before_end id stamp)
-    ∙ ap behind_last (cut_at id stamp.login (login_lacks stamp.login fits))

@@ -14,7 +14,7 @@ use Rattle.acct_model.specs.Plans.{price_of}
 use Rattle.acct_model.specs.History.{Accepted, History, SessionName, session_of, reports, plan_of}
 use Rattle.acct_model.specs.History.{greatest_counted, balance_of}
 use Rattle.acct_desk_pages.specs.Logins.{credit_of, paid_octets}
-use Rattle.acct_desk_pages.specs.SessionNames.{login_in, own_id}
+use Rattle.acct_desk_pages.specs.Overdrawn.{own_id}
 
 -- A session whose counted number rises by at most what a balance pays costs at most the balance
 -- more, wherever in a block it stands.
@@ -46,12 +46,6 @@ LoginKeepsBalance = (plans : List Plan) (history : History) (account : List ℕ)
 abbrev pub IdsAreRead : Type 0
 IdsAreRead = (id : List ℕ) (stamp : Stamp) → is_login stamp.login ≡ true
     → own_id stamp.name (stamped_session id stamp) ≡ id
-
--- The login of a stamp is read from the name of a session that has it. A report without a stamp has
--- an empty login: so its session counts at no login.
-abbrev pub LoginsAreSeen : Type 0
-LoginsAreSeen = (id : List ℕ) (stamp : Stamp) → is_login stamp.login ≡ true
-    → login_in stamp.name (stamped_session id stamp) ≡ stamp.login
 
 -- The stamp that a login is told is read by the site as its plan, its login and its account.
 abbrev pub ToldStampsAreRead : Type 0

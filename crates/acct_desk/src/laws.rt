@@ -2,7 +2,7 @@
 ghost use Rattle.acct_desk.specs.Laws.{OneThingIsAsked, MeFromPart};
 ghost use Rattle.acct_desk.specs.LoginLaws.{PaidOctetsCostTheBalance, LoginKeepsBalance};
 ghost use Rattle.acct_desk.specs.OverdrawnLaws.{PartsAreWhole};
-ghost use Rattle.acct_desk.specs.LoginLaws.{IdsAreRead, LoginsAreSeen, ToldStampsAreRead};
+ghost use Rattle.acct_desk.specs.LoginLaws.{IdsAreRead, ToldStampsAreRead};
 ghost use Rattle.acct_desk.specs.SignedKeyLaws.{SignedKeysAreRead, SignedKeysDiffer};
 ghost use Rattle.acct_desk.specs.SignedKeyLaws.{SignedKeysAreInForce, SignedKeysAreApart};
 
@@ -42,12 +42,6 @@ pub fn parts_are_whole()
 /// as it was.
 pub fn ids_are_read()
     ensures { IdsAreRead }
-{}
-
-/// The login of a stamp is read from the name of a session that has it. One of reports without a
-/// stamp counts at no login.
-pub fn logins_are_seen()
-    ensures { LoginsAreSeen }
 {}
 
 /// The stamp that a login is told is read by the site as its plan, its login and its account.

@@ -3,7 +3,7 @@ use Rattle.std.proofs.Common.{◌≡◌, ℕ, zero, suc, ◌+◌, ◌<◌, cond,
 use Rattle.std.proofs.Common.{get_or, refl, ◌∙◌, ap, subst, arith}
 use Rattle.std.proofs.lemmas.Bool.{ne_eqb, eq-eqb}
 use Rattle.std.specs.Prelude.{None, Some}
-use Rattle.acct_desk_pages.specs.SessionNames.{cut_last, cut_last_by}
+use Rattle.acct_desk_pages.specs.Overdrawn.{cut_last, cut_last_by}
 
 -- octets without a slash are not cut
 pub cut_last_none : (octets : List ℕ)

@@ -2,4 +2,3 @@ pub mod Responses
 pub mod Bodies
 pub mod Logins
 pub mod Overdrawn
-pub mod SessionNames

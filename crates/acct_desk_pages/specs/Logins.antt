@@ -11,7 +11,6 @@ use Rattle.acct_book.specs.declared.row.SessionState.{SessionState}
 use Rattle.acct_book.specs.declared.row.SessionState.TheVariants.{Live, Closed, Stopped}
 use Rattle.acct_book.specs.Row.{RowFacts}
 use Rattle.acct_book.specs.Maps.{octets_cmp}
-use Rattle.acct_desk_pages.specs.SessionNames.{has_login}
 use Rattle.acct_desk_pages.specs.declared.login.Heard.{Heard}
 
 -- ---- what a balance pays
@@ -44,15 +43,10 @@ abbrev pub is_open : RowFacts → Bool
 is_open row = is_live row.state
 
 -- the row is of a session that goes on, of a station other than this one, and was heard since then
-abbrev pub is_elsewhere : Heard → RowFacts → Bool
-is_elsewhere heard row =
+abbrev pub is_other : Heard → RowFacts → Bool
+is_other heard row =
     is_live row.state && nat_le heard.since row.last && nat_le 1 (length row.calling)
     && not (bytes_eq heard.station row.calling)
-
--- It is such a row, and somebody logged in: a report without the stamp of a login takes nobody's
--- place.
-abbrev pub is_other : Heard → RowFacts → Bool
-is_other heard row = is_elsewhere heard row && has_login row.account row.session
 
 -- the stations, each once, with that of a row if it counts
 abbrev pub with_station : Heard → List (List ℕ) → RowFacts → List (List ℕ)

@@ -5,4 +5,3 @@ pub mod bodies;
 pub mod json_response;
 pub mod login;
 pub mod overdrawn;
-mod session_names;

@@ -5,7 +5,6 @@ ghost use Rattle.serde_json.specs.View.{view, members_view};
 ghost use Rattle.acct_desk_pages.specs.Logins as spec;
 
 use crate::bodies::{PageError, put_number, put_text};
-use crate::session_names::has_login;
 use acct_book::{Row, SessionState};
 use acct_model::{Count, Octets, Plan};
 use serde_json::{Map, Value};
@@ -124,7 +123,11 @@ fn count_open(rows: &[Row]) -> u64
 }
 
 // How many other stations were heard, if a station was named.
-fn stations_of(alloc: Global, heard: Option<&Heard>, rows: &[Row]) -> Result<Option<u64>, PageError>
+fn stations_of(
+    alloc: Global,
+    heard: Option<&Heard>,
+    rows: &[Row],
+) -> Result<Option<u64>, AllocError>
     ensures { IfOk result (λ count.
         count ≡ spec.stations_heard (option_map (λ h. h.now) heard.entry) rows.now) }
 {
@@ -135,7 +138,7 @@ fn stations_of(alloc: Global, heard: Option<&Heard>, rows: &[Row]) -> Result<Opt
 }
 
 // How many other stations were heard.
-fn other_stations(alloc: Global, heard: &Heard, rows: &[Row]) -> Result<u64, PageError>
+fn other_stations(alloc: Global, heard: &Heard, rows: &[Row]) -> Result<u64, AllocError>
     ensures { IfOk result (λ count. count ≡ length (spec.other_stations heard.now rows.now)) }
 {
     let mut stations = BTreeSet::new(alloc);
@@ -151,34 +154,23 @@ fn add_station(
     stations: &mut BTreeSet<Vec<u8>>,
     heard: &Heard,
     row: &Row,
-) -> Result<(), PageError>
+) -> Result<(), AllocError>
     ensures { OnOk result (map (λ k. k.items) stations.new.keys
         ≡ spec.with_station heard.now (map (λ k. k.items) stations.old.keys) row.now) }
 {
-    let counts = is_other(alloc, heard, row)?;
-    if !counts {
+    if !is_other(heard, row) {
         return Ok(());
     }
     let station = owned(alloc, row.calling.as_slice())?;
     if stations.insert(station).is_err() {
-        return Err(PageError::Memory);
+        return Err(AllocError);
     }
     Ok(())
 }
 
-// Whether a row counts: it is of a session that goes on, of another station and of a login.
-fn is_other(alloc: Global, heard: &Heard, row: &Row) -> Result<bool, PageError>
-    ensures { IfOk result (λ other. other ≡ spec.is_other heard.now row.now) }
-{
-    if !is_elsewhere(heard, row) {
-        return Ok(false);
-    }
-    has_login(alloc, row.account.as_slice(), row.session.as_slice())
-}
-
 // Whether a row is of a session that goes on, of another station, and was heard.
-fn is_elsewhere(heard: &Heard, row: &Row) -> bool
-    ensures { result ≡ spec.is_elsewhere heard.now row.now }
+fn is_other(heard: &Heard, row: &Row) -> bool
+    ensures { result ≡ spec.is_other heard.now row.now }
 {
     row.state == SessionState::Live
         && heard.since <= row.last

@@ -8,12 +8,10 @@ ghost use Rattle.serde_json.specs.Data.{string};
 ghost use Rattle.serde_json.specs.View.{view, items_view, members_view};
 ghost use Rattle.acct_model.specs.Shown.{shown, shown_address};
 ghost use Rattle.acct_desk_pages.specs.Overdrawn as spec;
-ghost use Rattle.acct_desk_pages.specs.SessionNames.{own_id};
 
 use crate::bodies::{PageError, put_number, put_text};
-use crate::session_names::{before_payer, payer_end};
 use acct_book::{Row, SessionState};
-use acct_model::{coded_text, show, show_address};
+use acct_model::{coded_text, is_login, show, show_address};
 use serde_json::{Map, Value};
 use std::alloc::{AllocError, Global};
 
@@ -91,7 +89,7 @@ fn put_which(members: &mut Map<String, Value>, alloc: Global, row: &Row) -> Resu
     ensures { OnOk result (members_view members.new.entries
         ≡ put (codes "session") (string (shown row.now.session))
         (put (codes "last") (number (unsigned row.now.last))
-        (put (codes "id") (string (shown (own_id row.now.account row.now.session)))
+        (put (codes "id") (string (shown (spec.own_id row.now.account row.now.session)))
         (members_view members.old.entries)))) }
 {
     let id = shown_id(alloc, row)?;
@@ -105,10 +103,50 @@ fn put_which(members: &mut Map<String, Value>, alloc: Global, row: &Row) -> Resu
 // The id that the access server gave the session.
 fn shown_id(alloc: Global, row: &Row) -> Result<String, PageError>
     ensures { IfOk result (λ id. string_bytes id
-        ≡ shown (own_id row.now.account row.now.session)) }
+        ≡ shown (spec.own_id row.now.account row.now.session)) }
 {
-    let end = payer_end(alloc, row.account.as_slice())?;
+    let payer = coded_text(alloc, row.account.as_slice())?;
+    let end = ["/", payer.as_str()].concat(alloc)?;
     Ok(show(alloc, before_payer(end.as_bytes(), row.session.as_slice()))?)
+}
+
+// What is before `/LOGIN` and this end, if a session ends so, else the whole session.
+fn before_payer<'s>(end: &[u8], session: &'s [u8]) -> &'s [u8]
+    ensures { result.now ≡ spec.before_payer session.now (spec.without_end end.now session.now) }
+{
+    match without_end(end, session) {
+        Some(rest) => before_login(session, rest),
+        None => session,
+    }
+}
+
+fn before_login<'s>(session: &'s [u8], rest: &'s [u8]) -> &'s [u8]
+    ensures { result.now ≡ spec.before_login session.now (spec.cut_last rest.now) }
+{
+    match cut_last(rest) {
+        Some((id, login)) if is_login(login) => id,
+        _ => session,
+    }
+}
+
+// Octets without their end, if they end so.
+fn without_end<'s>(end: &[u8], octets: &'s [u8]) -> Option<&'s [u8]>
+    ensures { option_map (λ rest. rest.now) result ≡ spec.without_end end.now octets.now }
+{
+    octets.strip_suffix(end)
+}
+
+// What is before the last slash of octets, and what is behind it.
+fn cut_last(octets: &[u8]) -> Option<(&[u8], &[u8])>
+    ensures { option_map (λ parts. (parts.0.now, parts.1.now)) result ≡ spec.cut_last octets.now }
+{
+    for behind in 0..octets.len() {
+        let i = octets.len() - 1 - behind;
+        if octets[i] == b'/' {
+            return Some((&octets[..i], &octets[i + 1..]));
+        }
+    }
+    None
 }
 
 // The name of a client, and that of its device.

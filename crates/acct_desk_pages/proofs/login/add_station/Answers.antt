@@ -5,16 +5,16 @@ use Rattle.acct_desk_pages.proofs.Stations.{map-insert_key, with_other, without_
 use Rattle.acct_desk_pages.proofs.Stations.{on_ok}
 use Rattle.acct_desk_pages.proofs.login.add_station.Goals as goal
 
-pub returns-then-not-counts : goal.returns-then-not-counts
-returns-then-not-counts c =
+pub returns-then-not-is_other : goal.returns-then-not-is_other
+returns-then-not-is_other c =
     sym (without_other c.args.heard.now (map octets_of c.args.stations.now.keys) c.args.row.now
-    (sym c.in_ok-counts.ensures ∙ c.if-not-counts.true))
+    (sym c.is_other.ensures ∙ c.if-not-is_other.true))
 
 pub returns : goal.returns
 returns c =
     let keys = c.args.stations.now.keys in
     let station = c.in_ok-station.station in
-    let counts = sym c.in_ok-counts.ensures ∙ c.if-not-counts.false in
+    let counts = sym c.is_other.ensures ∙ c.if-not-is_other.false in
     let set = on_ok c.insert.result _ (sym c.is_err.ensures.value ∙ c.if-is_err.false)
     c.insert.ensures.keys in
     let same : station.items ≡ c.args.row.now.calling = search rules in

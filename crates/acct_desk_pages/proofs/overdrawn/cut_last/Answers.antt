@@ -1,7 +1,7 @@
 use Rattle.std.proofs.Common.{sym, ◌∙◌, ap, length, take, drop, ◌-◌, ◌+◌, ℕ, List, arith, Some}
 use Rattle.std.proofs.lemmas.List.{take_all, length-drop}
 use Rattle.acct_desk_pages.proofs.LastCuts.{cut_last_none, cut_last_at}
-use Rattle.acct_desk_pages.proofs.session_names.cut_last.Goals as goal
+use Rattle.acct_desk_pages.proofs.overdrawn.cut_last.Goals as goal
 
 pub returns-then-octets-i-eq47 : goal.returns-then-octets-i-eq47
 returns-then-octets-i-eq47 c =

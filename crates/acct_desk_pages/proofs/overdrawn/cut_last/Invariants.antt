@@ -1,5 +1,5 @@
 use Rattle.std.proofs.Common.{◌≡◌, ℕ, ◌-◌, ◌<◌, ◌≤◌, get_or, length}
-use Rattle.acct_desk_pages.proofs.session_names.cut_last.Given as goal
+use Rattle.acct_desk_pages.proofs.overdrawn.cut_last.Given as goal
 
 -- no octet from there on is a slash
 abbrev pub invariant-loop-behind : goal.invariant-loop-behind
