@@ -30,8 +30,7 @@ def stopped():
 
 def copy(folder):
     """Writes the book and its log into a folder of root's. Returns for how long, in seconds, the
-    server stood still, or None.
-    """
+    server stood still, or None."""
     begun = time.monotonic()
     with stopped() as is_stopped, contextlib.ExitStack() as stack:
         opened = lambda path: stack.enter_context(files.of_user(path, places.SERVER_USER))

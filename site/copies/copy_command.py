@@ -24,8 +24,7 @@ def arguments(it):
 
 def now():
     """By the unit. What kills the unit may kill what starts the server at its end, too, as systemd
-    257 does: then the server is started here.
-    """
+    257 does: then the server is started here."""
     begun = time.strftime("%F %T")
     status = machine.run("systemctl", "start", UNIT, seconds=86400)[0]
     if os.path.exists(book.STOPPED):

@@ -50,8 +50,7 @@ def plans_of(book):
 @contextlib.contextmanager
 def looked_at(folder):
     """The words for a command of radacctd over a copy's book. It may write: so it gets another one,
-    with the plans that the book keeps.
-    """
+    with the plans that the book keeps."""
     with tempfile.TemporaryDirectory(dir=places.FOLDER, prefix=LOOK) as place:
         for it in ("book", "book-wal"):
             if os.path.exists(f"{folder}/{it}"):
@@ -63,8 +62,7 @@ def looked_at(folder):
 
 def check(folder):
     """Fails unless each file is as it was written, and the book is sound and balances. Returns of
-    which moment the copy is.
-    """
+    which moment the copy is."""
     try:
         with open(f"{folder}/{SUMS}", encoding="utf-8") as file:
             when, _, wanted = file.read().partition("\n")

@@ -31,9 +31,9 @@ sync -f "$path"
 
 def given(user, program, path, *more, source=subprocess.DEVNULL):
     """What a program printed that a user ran with a path. Its input is a file that is open."""
-    words = ["timeout", "-k", "9", "3600", *machine.as_user(user), *program, path, *more]
-    done = subprocess.run(words, stdin=source, capture_output=True, cwd="/",
-                          env=machine.ENVIRONMENT)
+    with machine.within(3600):
+        done = subprocess.run([*machine.as_user(user), *program, path, *more], stdin=source,
+                              capture_output=True, cwd="/", env=machine.ENVIRONMENT)
     if done.returncode:
         why = machine.last_line(done.stderr.decode("utf-8", "replace"))
         raise Failed(f"{path} as {user}: {why}")

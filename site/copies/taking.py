@@ -17,8 +17,7 @@ READERS = "/etc/radacctd-copies.recipients"
 
 def take_roots(to):
     """Archives root's places, with owners and modes. tar follows no link of theirs, and a folder
-    in which others may put one fails.
-    """
+    in which others may put one fails."""
     found = places.roots()
     for path in found:
         with files.opened_folder(os.path.dirname(path)):
@@ -32,8 +31,7 @@ def take_roots(to):
 
 def make(taken):
     """Makes the copy under its first name. Returns for how long the server stood still, and what
-    the copy lacks.
-    """
+    the copy lacks."""
     shutil.rmtree(NEW, ignore_errors=True)
     os.mkdir(NEW, 0o700)
     seconds = book.copy(NEW)
@@ -99,8 +97,7 @@ def free_name(taken):
 
 def checked(name):
     """Gives the copy its name once it is known to be sound. One that is not is kept apart, and then
-    no older one goes.
-    """
+    no older one goes."""
     try:
         kept.check(NEW)
     except kept.Unsound as why:
@@ -116,8 +113,7 @@ def checked(name):
 
 def carry_forward():
     """On the second of a month, if the site says which old sessions: the copy has them as they were.
-    The server stands still for it.
-    """
+    The server stands still for it."""
     words = os.environ.get("RADACCTD_FORWARD", "").split()
     if not words or time.localtime().tm_mday != 2:
         return

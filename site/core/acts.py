@@ -40,8 +40,7 @@ SOLD, WAITING, REFUSED = "sold", "waiting", "refused"
 
 def begin(db, acts):
     """Writes acts within a transaction of the caller's. One that is there stays as it is. Of a second
-    correction by one number the book would take the difference: it is an IntegrityError.
-    """
+    correction by one number the book would take the difference: it is an IntegrityError."""
     now = int(time.time())
     db.executemany("INSERT INTO act (number, account, sum, kind, who, paid, begun) "
                    "VALUES (?, ?, ?, ?, ?, ?, ?) ON CONFLICT (number, account, sum) DO NOTHING",
@@ -56,8 +55,7 @@ def ask(book, act):
 
 def send(db, book, act):
     """One request for an act that is on the disk: what the book said of it. If that cannot be
-    written, the act is sent again: no page may say then that nothing was sent.
-    """
+    written, the act is sent again: no page may say then that nothing was sent."""
     found = ask(book, act)
     if found in FINAL:
         with contextlib.suppress(sqlite3.Error), db:
@@ -75,8 +73,7 @@ def do(db, book, act):
 
 def again(db, book):
     """Sends what has no answer, oldest first, until the desk is away: how many have one now. What
-    the desk does not understand keeps nothing else back.
-    """
+    the desk does not understand keeps nothing else back."""
     done = 0
     for row in db.execute("SELECT number, account, sum, kind, who, paid FROM act "
                           "WHERE answer IS NULL ORDER BY begun, number").fetchall():

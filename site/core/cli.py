@@ -7,11 +7,7 @@ import sqlite3
 import sys
 
 from radacctd_site.core import Failed, features
-
-
-def plain(text, also=""):
-    """A text as a terminal may have it: other users chose names and lines that are in it."""
-    return "".join(it if it.isprintable() or it in also else "?" for it in str(text))
+from radacctd_site.core.names import plain
 
 
 def reason(fault):

@@ -48,8 +48,7 @@ def credit(where, key, account, total, number, **how):
 
 def ask(where, method, path, key, body=None, patience=30, connect=None, most=1 << 20):
     """The status and the body that the desk at an address and a port gave. It has `connect` seconds
-    for a connection. OSError says why there is no answer, and has no word of what came.
-    """
+    for a connection. OSError says why there is no answer, and has no word of what came."""
     caller = http.client.HTTPConnection(*where, timeout=connect or patience)
     try:
         caller.connect()

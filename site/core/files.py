@@ -70,8 +70,7 @@ def named(why, path):
 @contextlib.contextmanager
 def opened_folder(path, *users):
     """A folder by its path, none of whose names is a link, and none of whose folders others may
-    write.
-    """
+    write."""
     handle = os.open("/", FOLDER)
     try:
         for name in filter(None, os.path.abspath(path).split("/")):
@@ -114,8 +113,7 @@ def opened(path, *users):
 @contextlib.contextmanager
 def of_user(path, user):
     """A file of a user's, in a folder of that user's. A link, a pipe, another user's file or a
-    second name of one is refused.
-    """
+    second name of one is refused."""
     with opened(path, user) as (file, status):
         if status.st_uid != pwd.getpwnam(user).pw_uid or status.st_nlink != 1:
             raise OSError(errno.EPERM, f"it is not a file of {user} alone", path)
@@ -157,8 +155,7 @@ def make(path, octets, mode=0o600, rights=None, folder=None):
     """Makes a file with a content, on the disk, and never over another one. A half one is removed.
 
     It has a mode before its content; or further rights, which a function gives it. The folder's
-    caller syncs it, who may have it open.
-    """
+    caller syncs it, who may have it open."""
     way = os.O_CREAT | os.O_EXCL | os.O_WRONLY | os.O_NOFOLLOW
     handle = os.open(path, way, 0o600, dir_fd=folder)
     try:
@@ -174,8 +171,7 @@ def make(path, octets, mode=0o600, rights=None, folder=None):
 
 def replace_in(folder, name, octets, mode=0o600, rights=None, before=lambda: None):
     """Puts a file into place in a folder that is open; what was there stays until it is whole. The
-    caller syncs the folder.
-    """
+    caller syncs the folder."""
     new = name + NEW
     remove(new, folder)
     make(new, octets, mode, rights, folder)

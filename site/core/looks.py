@@ -59,8 +59,7 @@ def store(path):
 
 def oldest_kept(folder):
     """When the oldest report in a folder of FreeRADIUS' was kept, or None. Its user, who may change
-    names there, looks. Of one that was sent the line is another one.
-    """
+    names there, looks. Of one that was sent the line is another one."""
     _, said = machine.run(*machine.as_user(places.RADIUS_USER), "find", folder, "-type", "f",
                           "-exec", "grep", "-hm1", "Timestamp = ", "{}", "+")
     return min(map(int, re.findall(r"(?m)^\tTimestamp = (\d{1,10})$", said)), default=None)

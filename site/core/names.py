@@ -66,9 +66,16 @@ def why_not(name):
     if other := OTHER.search(text):
         mark = shown(other[0].encode())
         return f"it has {mark}, and a name has letters, digits, spaces and . _ @ -"
+    if text.startswith("radacctd-"):
+        return "it begins as a name of the site's own: radacctd-"
     if not FIRST.match(text) or text.endswith(" "):
         return "it begins with a space or . @ -, or ends with a space"
     return None
+
+
+def plain(text, also=""):
+    """A text as a terminal may have it: other users chose names and lines that are in it."""
+    return "".join(it if it.isprintable() or it in also else "?" for it in str(text))
 
 
 def cell(text):
@@ -86,7 +93,7 @@ def csv_of(header, rows):
     file = io.StringIO(newline="")
     writer = csv.writer(file, lineterminator="\n")
     writer.writerow(header)
-    writer.writerows([it if BELOW_0.fullmatch(it) else cell(it) for it in map(str, row)]
+    writer.writerows([it if BELOW_0.fullmatch(it) else cell(it) for it in map(plain, row)]
                      for row in rows)
     return file.getvalue()
 

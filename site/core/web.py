@@ -59,6 +59,9 @@ class Visit:
 
     def __init__(self, db, request):
         self.db, self.request = db, request
+        # Of a header with anything else nothing could be read.
+        request.environ["HTTP_COOKIE"] = "; ".join(
+            re.findall(r"[\w-]+=[\w.-]*", request.get_header("Cookie", "")))
         found = request.get_cookie(COOKIE) or ""
         self.token = found if TOKEN.fullmatch(found) else ""
         person = people.of_token(db, self.token) if self.token else None

@@ -27,13 +27,22 @@ def value(text, name):
     return found[1].strip("\"'") if found else ""
 
 
+def hosts(block):
+    """The addresses of a client: its own, or of a network those of its members."""
+    return re.findall("[^ ,]+", value(block, "members")) or [value(block, "ip(?:v[46])?addr")]
+
+
+def lacks(text):
+    """Whether one of a client's addresses cannot be asked."""
+    return len(servers(text)) <= len({*hosts(text)})
+
+
 def servers(text):
     """Who can be asked to end a session, of clients.conf: by NAS-Identifier, and by address. Of a
     network all members are asked: those without that session refuse."""
     found = {}
     for name, block in BLOCK.findall(text):
-        own = value(block, "ip(?:v[46])?addr")
-        for host in re.findall("[^ ,]+", value(block, "members")) or [own]:
+        for host in hosts(block):
             with contextlib.suppress(ValueError):
                 address = ipaddress.ip_address(host)
                 it = {key: value(block, key) for key in ("secret", "user_name")}

@@ -48,7 +48,7 @@ def access_servers():
         if re.fullmatch(r"0\.0\.0\.0|::|\*|.*/[0-7]", address):
             yield Fault("front-wrong", f"client {name} of {RADDB}/clients.conf is every address",
                         f"write the access servers' own addresses; {RESTART}")
-        elif port != "no" and not cut.servers(f"client {name} {{{text}}}"):
+        elif port != "no" and cut.lacks(f"client {name} {{{text}}}"):
             yield Fault("cut-off", f"client {name} of {RADDB}/clients.conf: nobody is cut off there",
                         'write cut = 3799, and of a network members = "ADDRESS .."; else cut = no')
     if clients.value(files.text(f"{RADDB}/settings.conf"), "observe") == "yes":

@@ -28,8 +28,8 @@ def of(answers, of_group):
     if answers.is_own:
         return
     yield Step(f"make {FILE}, with FreeRADIUS' tables of users",
-               lambda: rows("radusergroup") is not None, lambda: sql(
-                   f"BEGIN;\n{machine.text_of(places.RADIUS_USER, SCHEMA)}\nCOMMIT;\n"))
+               lambda: rows("radusergroup") is not None, lambda: sql("BEGIN;\n" + re.sub(
+                   "(?m)^[.]", " .", machine.text_of(places.RADIUS_USER, SCHEMA)) + "\nCOMMIT;\n"))
     rights = lambda: (*steps.ids(places.USER, places.RADIUS_USER), 0o640)
     yield Step(f"let {places.RADIUS_USER} read {FILE}",
                lambda: steps.rights_of(os.lstat(FILE)) == rights(),

@@ -87,16 +87,16 @@ def make(db, book, made):
     try:
         settle(db)
     except Failed as why:
-        # They are sold: the next minute lets them in.
-        print(why, file=sys.stderr, flush=True)
+        print(why, file=sys.stderr, flush=True)  # They are sold: the next minute lets them in.
 
 
 def is_new(db, it, taken):
     """Whether a login is to be made. Ends if FreeRADIUS, the book or a login has its name."""
     if db.execute("SELECT 1 FROM login WHERE number = ?", (it.number,)).fetchone():
         return False
-    had = db.execute("SELECT 1 FROM login WHERE account = ?1 OR name = ?1 UNION "
-                     "SELECT 1 FROM act WHERE account = ?2", (it.account, act_of(it).account))
+    asked = ("SELECT 1 FROM login WHERE account = ?1 OR name = ?1 UNION "
+             "SELECT 1 FROM act WHERE account = ?2 AND answer IS NULL")
+    had = db.execute(asked, (it.account, act_of(it).account))
     if had.fetchone() or it.name in taken:
         raise Failed(f"{it.account} is there already, or was: nothing was sold. Give another name")
     return True

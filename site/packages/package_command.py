@@ -78,7 +78,8 @@ def show(db):
         parts = [packages.terms(it), f"plan {it.plan}", f"then {it.slow}" if it.slow else ""]
         states = [row["state"] for row in logins.listed(db, "package = ?", name)]
         counts = ", ".join(f"{state} {states.count(state)}" for state in logins.STATES)
-        print(f"{name}: {', '.join(filter(None, parts))}; {counts}".replace("\u00a0", " "))
+        text = f"{name}: {', '.join(filter(None, parts))}; {counts}".replace("\u00a0", " ")
+        print(cli.plain(text))
 
 
 def main(words):

@@ -186,9 +186,17 @@ class Selling(Packages):
         with self.db:
             acts.begin(self.db, [acts.Act("D-9", "b o", 500, "desk", "anna", 500)])
         self.assertRaisesRegex(Failed, "was", self.make, name="b o")
+        # Whom a spent code was tried for is nobody yet.
+        with self.db:
+            self.db.execute("UPDATE act SET answer = 'differs' WHERE number = 'D-9'")
+        self.make(name="b o")
+        with users.opened() as db:
+            db.execute("INSERT INTO radgroupcheck (groupname, attribute, op, value) VALUES "
+                       "('family', 'Front-Payer', ':=', 'smith')")
+        self.assertRaisesRegex(Failed, "was", self.make, name="smith")
         self.book.is_away = True
         self.assertRaisesRegex(Failed, "whose", self.make, name="bo")
-        self.assertEqual(len(self.book.credits), 1)
+        self.assertEqual(len(self.book.credits), 2)
 
     def test_a_code_is_a_key_to_what_is_left_on_it_until_it_ends(self):
         one, other = self.make(), self.make(name="room 12")

@@ -20,7 +20,8 @@ TABLES = {
     "radgroupcheck": ("package", "groupname, attribute, op, value"),
     "radgroupreply": ("package", "groupname, attribute, op, value"),
 }
-PAYERS = "UNION SELECT value FROM radcheck WHERE attribute = 'Front-Payer'"
+PAYERS = " ".join(f"UNION SELECT value FROM {it} WHERE attribute = 'Front-Payer'"
+                  for it in ("radcheck", "radgroupcheck"))
 
 
 def path():

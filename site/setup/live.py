@@ -38,7 +38,7 @@ FRONT, KEPT = "/etc/radacctd-front", "/var/lib/radacctd-front"
 SETTINGS, CERTIFICATE = f"{FRONT}/settings.conf", f"{FRONT}/certs/server.pem"
 CONFIG, COPIES, BOOK = "/etc/radacctd.toml", "/var/backups/radacctd", "/var/lib/radacctd/book"
 SITE = "/var/lib/radacctd-site"
-USERS = f"setsid -w runuser -u radacctd-site -- sqlite3 {SITE}/users.db"
+USERS = f"setsid -w runuser -u radacctd-site -- sqlite3 -safe {SITE}/users.db"
 # A report with a wrong secret, straight to radacctd, and to FreeRADIUS.
 WRONG = "echo 'User-Name=a,Acct-Status-Type=Start,Acct-Session-Id=1"
 SENT = "radclient -r 1 -t 1 127.0.0.1:11813 acct wrong; journalctl --sync"

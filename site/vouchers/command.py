@@ -43,7 +43,7 @@ def show(db, sheet):
     if not sheet:
         for it in vouchers.sheets(db):
             counts = ", ".join(f"{state} {it[state]}" for state in vouchers.STATES)
-            print(f"{it['name']}: of {site.shown(it['sum'])}: {counts}")
+            print(cli.plain(f"{it['name']}: of {site.shown(it['sum'])}: {counts}"))
         return
     print(names.csv_of(("code", "sum", "state", "account"), vouchers.codes_of(db, sheet)), end="")
 
