@@ -29,7 +29,7 @@ def value(text, name):
 
 def hosts(block):
     """The addresses of a client: its own, or of a network those of its members."""
-    return re.findall("[^ ,]+", value(block, "members")) or [value(block, "ip(?:v[46])?addr")]
+    return re.findall(r"[^\s,]+", value(block, "members")) or [value(block, "ip(?:v[46])?addr")]
 
 
 def lacks(text):
