@@ -32,8 +32,7 @@ def ids(owner, group):
 
 class Step:
     """What is to hold: `look` tells whether it does, `do` makes it so, `cure` is for a person, and
-    `undo` takes back what a `do` that failed has changed. Without one the next run ends it.
-    """
+    `undo` takes back what a `do` that failed has changed. Without one the next run ends it."""
 
     name, cure, undo = "differs", AGAIN, None
 
@@ -123,8 +122,7 @@ def rights_of(status):
 
 class File(Step):
     """A file of ours in a folder of root's, with its content, owner and mode. `change` is the
-    content, or makes it of what was there, which is kept unless `keeps` says otherwise.
-    """
+    content, or makes it of what was there, which is kept unless `keeps` says otherwise."""
 
     def __init__(self, path, change, mode=0o644, group="root", owner="root", keeps=True, **more):
         super().__init__(f"write {path}, mode {mode:o}, of {owner} and {group}", **more)
@@ -191,8 +189,7 @@ def is_fresh(unit, paths):
 
 class Unit(Step):
     """A unit that runs, also after a boot, and has read its files as they are: once a test of them
-    ends well it is restarted. What it was told last counts, a reload, too.
-    """
+    ends well it is restarted. What it was told last counts, a reload, too."""
 
     name = "unit-down"
     WANTED = {"ActiveState": "active", "UnitFileState": "enabled", "NeedDaemonReload": "no"}
