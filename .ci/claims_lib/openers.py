@@ -148,6 +148,16 @@ COUNTED = (
         },
     ),
     (
+        "makers of a job that has a moment",
+        re.compile(r"-> (?:Import|Forward)<"),
+        {JOBS + "work.rt": 2},
+    ),
+    (
+        "readings of the clock for the file of a book",
+        re.compile(r"\bread_clock\(runtime, files\.database\)"),
+        {JOBS + "command.rt": 2},
+    ),
+    (
         "names of a way to make a book",
         re.compile(r"\bMaking::\w+|\bSelf::(?:New|Migrated|Extended)\b"),
         {JOBS + "command.rt": 3, JOBS + "database.rt": 6, JOBS + "making.rt": 7},
@@ -225,10 +235,11 @@ BY_EYE = (
     (COMMANDS + "kept_names.rt", "is_foreign", "a file that is none of these is foreign"),
     (COMMANDS + "gauges.rt", "note_config", "what is noted is what is shown"),
     (COMMANDS + "gauges.rt", "note_away", "so is this"),
+    (COMMANDS + "book_clock.rt", "read_clock", "the moment is the clock's, and the date is that file's"),
     (COMMANDS + "counted_lines.rt", "overdrawn", "as many lines passed of accounts below 0"),
     (COMMANDS + "shared.rt", "write", "each text that it is given is written"),
 )
-MOST_BY_EYE = 293
+MOST_BY_EYE = 297
 MOST_OF_CHANGES = 120
 
 USE = re.compile(r"^\s*(?:pub(?:\([^)]*\))? )?use ([^;]+);", re.M)
