@@ -3,8 +3,7 @@
 A copy is a folder of /var/backups/radacctd, for root alone: the book with its log, site.db, users,
 configuration, secrets and certificates, with their SHA-256 sums. radacctd stops while its book is
 copied, and FreeRADIUS keeps reports meanwhile. A copy gets its name once it was checked.
-`radacctl copy` alone makes one now, by radacctd-copy.service.
-"""
+`radacctl copy` alone makes one now, by radacctd-copy.service."""
 
 import os
 import time

@@ -1,6 +1,5 @@
 """How root reads and writes in a folder that another user may change: as that user, by pipes. So no
-name there leads root elsewhere, at any moment.
-"""
+name there leads root elsewhere, at any moment."""
 
 import subprocess
 

@@ -1,8 +1,7 @@
 """What the book says of its accounts: the balances that it writes, and what its desk tells.
 
 radacctd writes the file of balances every few seconds. Its desk tells of an account only to a key
-that has `accounts = true`.
-"""
+that has `accounts = true`."""
 
 import csv
 import difflib

@@ -3,8 +3,7 @@
 A row has the number, the account and the sum of a credit, or of a correction: then the sum is below
 0. It is on the disk before the one request, and gets the answer after it. What has none is sent
 again each minute: the book takes a number once, for one account and one sum, so that nothing else
-has to guard it.
-"""
+has to guard it."""
 
 import collections
 import contextlib

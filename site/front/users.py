@@ -9,7 +9,13 @@ from radacctd_site.core.steps import Step
 from radacctd_site.front import clients
 
 FILE = f"{places.USUAL}/users.db"
-SCHEMA = "/etc/freeradius/3.0/mods-config/sql/main/sqlite/schema.sql"
+# FreeRADIUS' tables, as its queries read them. Its own file of them is its user's to write.
+PAIR = "attribute TEXT NOT NULL, op TEXT NOT NULL, value TEXT NOT NULL"
+TABLES = "".join(f"CREATE TABLE {name} (id INTEGER PRIMARY KEY, {whose} TEXT NOT NULL, {more});\n"
+                 f"CREATE INDEX {name}_{whose} ON {name} ({whose});\n" for name, whose, more in (
+                     ("radcheck", "username", PAIR), ("radgroupcheck", "groupname", PAIR),
+                     ("radreply", "username", PAIR), ("radgroupreply", "groupname", PAIR),
+                     ("radusergroup", "username", "groupname TEXT, priority INTEGER DEFAULT 1")))
 POSTGRESQL = """\
 # Where users and groups are: FreeRADIUS' schema. `radacctl setup` wrote this file.
 driver = "rlm_sql_postgresql", dialect = "postgresql"
@@ -28,8 +34,7 @@ def of(answers, of_group):
     if answers.is_own:
         return
     yield Step(f"make {FILE}, with FreeRADIUS' tables of users",
-               lambda: rows("radusergroup") is not None, lambda: sql("BEGIN;\n" + re.sub(
-                   "(?m)^[.]", " .", machine.text_of(places.RADIUS_USER, SCHEMA)) + "\nCOMMIT;\n"))
+               lambda: rows("radusergroup") is not None, lambda: sql(f"BEGIN;\n{TABLES}COMMIT;\n"))
     rights = lambda: (*steps.ids(places.USER, places.RADIUS_USER), 0o640)
     yield Step(f"let {places.RADIUS_USER} read {FILE}",
                lambda: steps.rights_of(os.lstat(FILE)) == rights(),
