@@ -146,6 +146,16 @@ class Logins(Site):
         browser.post("/login/", name="anna", password=PASSWORD)
         self.assertNotEqual(browser.cookies[web.COOKIE], before)
 
+    def test_a_cookie_that_is_none_ends_no_page(self):
+        people.put(self.db, "anna", CASHIER, PASSWORD)
+        browser = Browser(self.app)
+        browser.post("/login/", name="anna", password=PASSWORD)
+        browser.cookies["a,b"] = "c"
+        self.assertEqual(browser.get("/desk/"), 200)
+        browser.cookies["a" * 8000] = "c d"
+        begun = time.monotonic()
+        self.assertEqual((browser.get("/desk/"), time.monotonic() - begun < 0.2), (200, True))
+
     def test_five_tries_a_minute_by_name_and_by_address(self):
         people.put(self.db, "anna", CASHIER, PASSWORD)
         browser = Browser(self.app)
