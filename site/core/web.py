@@ -61,7 +61,7 @@ class Visit:
         self.db, self.request = db, request
         # Of a header with anything else nothing could be read.
         request.environ["HTTP_COOKIE"] = "; ".join(
-            re.findall(r"(?<![\w-])[\w-]+=[\w.-]*", request.get_header("Cookie", "")))
+            re.findall(r"(?:^|; ?)([\w-]+=[\w.-]*)(?=;|$)", request.get_header("Cookie", "")))
         found = request.get_cookie(COOKIE) or ""
         self.token = found if TOKEN.fullmatch(found) else ""
         person = people.of_token(db, self.token) if self.token else None

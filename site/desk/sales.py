@@ -2,8 +2,7 @@
 
 A sale is an act of core: a row before it is a request. It is sold once the book has said so. It
 counts in the shift in which the book said so: the end of a shift counts what no shift has counted,
-so that no clock decides, and what has ended does not change.
-"""
+so that no clock decides, and what has ended does not change."""
 
 import time
 

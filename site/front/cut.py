@@ -33,8 +33,9 @@ def hosts(block):
 
 
 def lacks(text):
-    """Whether one of a client's addresses cannot be asked."""
-    return len(servers(text)) <= len({*hosts(text)})
+    """Whether one of a client's addresses cannot be asked, or is not read."""
+    lines = " ".join(re.findall(r"(?m)^[^#\n]*?\bmembers[ \t]*=([^#\n]*)", text))
+    return len(servers(text)) <= max(1, len({*re.findall(r"[\w/-]*[.:][\w.:/-]*", lines)}))
 
 
 def servers(text):

@@ -74,7 +74,9 @@ class CutOff(unittest.TestCase):
                                 (", cut = 1700", "", 1), ("cut = 1700", "cut = yes", 1),
                                 ("10.0.2.1 10.0.2.2", "10.0.2.1, 10.0.2.2", 0),
                                 ("10.0.2.1 10.0.2.2", "ap1.lan ap2.lan", 1),
-                                ("10.0.2.1 10.0.2.2", "10.0.2.1 10.0.2.300", 1)):
+                                ("10.0.2.1 10.0.2.2", "10.0.2.1 10.0.2.300", 1),
+                                ('"10.0.2.1 10.0.2.2"', "10.0.2.1, 10.0.2.2", 1),
+                                ('"10.0.2.1 10.0.2.2"', "10.0.2.1\n\tmembers = 10.0.2.2", 1)):
             with mock.patch.object(files, "text", lambda _, it=text.replace(old, new): it):
                 self.assertEqual(len([*looks.access_servers()]), count, new)
 
