@@ -66,8 +66,6 @@ def why_not(name):
     if other := OTHER.search(text):
         mark = shown(other[0].encode())
         return f"it has {mark}, and a name has letters, digits, spaces and . _ @ -"
-    if text.startswith("radacctd-"):
-        return "it begins as a name of the site's own: radacctd-"
     if not FIRST.match(text) or text.endswith(" "):
         return "it begins with a space or . @ -, or ends with a space"
     return None

@@ -80,7 +80,7 @@ class Visit:
 
     def why_not(self, account):
         """Why nothing is sold to an account, as its reader understands it, or ""."""
-        if names.why_not(account):
+        if names.why_not(account) or account.startswith("radacctd-"):
             return self.text(
                 "Nobody can log in as %(name)s. A name begins with a letter or a digit. It has at "
                 "most 60 letters, digits, spaces and . _ @ -", name=account)
@@ -188,7 +188,7 @@ def guarded(page, does):
             return answered(page, does, parts)
         except (sqlite3.Error, OSError, Failed) as why:
             print(f"{page.path}: {why}", file=sys.stderr, flush=True)
-            return rendered("core/closed.html", 503, language_of(bottle.request))
+            return rendered("core/closed.html", 503, "en")
 
     return handler
 

@@ -88,8 +88,8 @@ class Proof:
 
     def login(self, wanted):
         """Logs in until the answer is the one that is wanted: the Class of it."""
-        [password] = users.rows("radcheck") or [""]
-        lines = [f'User-Name = "{TEST_NAME}"', f'User-Password = 0x{password.encode().hex()}']
+        [password] = [re.sub(r"\W", "", it) for it in users.rows("radcheck") or [""]]
+        lines = [f'User-Name = "{TEST_NAME}"', f'User-Password = "{password}"']
         said, end = "", time.monotonic() + PATIENCE
         while f"Received {wanted}" not in said:
             if time.monotonic() > end:
