@@ -59,9 +59,6 @@ class Visit:
 
     def __init__(self, db, request):
         self.db, self.request = db, request
-        # Of a header with anything else nothing could be read.
-        request.environ["HTTP_COOKIE"] = "; ".join(
-            re.findall(r"(?:^|; ?)([\w-]+=[\w.-]*)(?=;|$)", request.get_header("Cookie", "")))
         found = request.get_cookie(COOKIE) or ""
         self.token = found if TOKEN.fullmatch(found) else ""
         person = people.of_token(db, self.token) if self.token else None
@@ -184,11 +181,14 @@ def answered(page, does, parts):
 def guarded(page, does):
     """The same, also if site.db cannot be used: then nothing was sent."""
     def handler(**parts):
+        # Of a header with anything else nothing could be read.
+        bottle.request.environ["HTTP_COOKIE"] = "; ".join(re.findall(
+            r"(?:^|; ?)([\w-]+=[\w.-]*)(?=;|$)", bottle.request.get_header("Cookie", "")))
         try:
             return answered(page, does, parts)
         except (sqlite3.Error, OSError, Failed) as why:
             print(f"{page.path}: {why}", file=sys.stderr, flush=True)
-            return rendered("core/closed.html", 503, "en")
+            return rendered("core/closed.html", 503, language_of(bottle.request))
 
     return handler
 

@@ -29,7 +29,7 @@ class Card(Site):
                 session(2000), session(3000, state="open", total=1_500_000_000, charged="90"),
                 session(4000, client="(gold)", charged="30"),
                 session(2500, client="books", **{"class": "debit"}, charged="20")],
-            "topups": [{"sum": 500, "voucher": "D1-A", "when": 1000},
+            "topups": [{"sum": 500, "voucher": "V-A", "when": 1000},
                        {"sum": 300, "voucher": "W-B", "when": 1500}]}
         self.list_plans(PLANS)
         self.key = cards.new(self.db, ACCOUNT)
@@ -47,10 +47,10 @@ class Guests(Card):
         page = self.guest().text
         for text in ("roomä 1", "6.50\u00a0EUR left", "about 65.0\u00a0MB, down and up together",
                      "81% of what was bought", "1.5\u00a0GB", "still on", "Correction",
-                     "Earlier sessions", "D1-A", "W-B", "0.90\u00a0EUR"):
+                     "Earlier sessions", "V-A", "W-B", "0.90\u00a0EUR"):
             self.assertIn(text, page)
         self.assertLess(page.index("1.5\u00a0GB"), page.index("Earlier sessions"))
-        self.assertLess(page.index("W-B"), page.index("D1-A"))
+        self.assertLess(page.index("W-B"), page.index("V-A"))
 
     def test_in_german(self):
         page = self.guest(HTTP_ACCEPT_LANGUAGE="de").text
