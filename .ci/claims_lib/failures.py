@@ -1,6 +1,7 @@
 """Each failure that a body of the product names, of which docs/proofs/AUDIT.md has a table: a clause
 that allows a failure allows a body that always fails. What a pattern compares is not named. The table
-has a sum of the bodies of each source: one that fails at one size more is another body.
+has a sum of the bodies of each source that may fail, take an error for an answer, note something
+beside what they return, or watch a run: one that does so at one size more is another body.
 """
 
 import hashlib
@@ -28,6 +29,8 @@ PASSED_ON = re.compile(
     r"(?:Err\((?:_|\w+|[\w:]+(?:\([^()]*\))?)\) => (?:\{ )?(?:return )?"
     r"|let Ok\([^;{}]*\) = [^;{}]* else \{ (?:return )?"
     r"|is_err\(\) \{ (?:let _ = [^;]*; )?(?:return )?|map_err\([^;]*)$")
+# Who asks with `?`, takes an error for an answer, notes something, or watches.
+HANDS_ON = re.compile(r"\?|Err\(_\) =>|\.note\w*\(|\bWatched::new\(")
 
 
 def bodies_of(text):
@@ -50,12 +53,12 @@ def mentions_in(body):
 
 def counted(text):
     """How many failures each function makes by itself, how many of a source are passed on, and a sum
-    of the bodies that name one or ask with `?`, if there is one.
+    of the bodies that name one or hand one on, if there is one.
     """
     own, passed, named = {}, 0, []
     for name, body in bodies_of(re.sub(r'"(?:[^"\\]|\\.)*"', '""', text)):
         found = list(mentions_in(body))
-        named += [body] if found or "?" in body else []
+        named += [body] if found or HANDS_ON.search(body) else []
         for is_passed in found:
             # A conversion is asked by `?`, of what a call gave.
             is_passed = is_passed or name == "from"

@@ -4,17 +4,19 @@
 //! none, and it blocks on a pipe. It stops reading a damaged log at the damage, and writes behind
 //! it. It empties a log next to a file without a database. A mistyped name must do none of this. So
 //! an open takes files that were looked at, and nothing but a look makes these.
-ghost use Rattle.std.specs.Prelude.{◌≡◌, ℕ, List, Err, false, true, IfOk, IfErr, OnOk};
-ghost use Rattle.acct_reads.specs.Log.{IsLogOf};
+ghost use Rattle.std.specs.Prelude.{◌≡◌, Err, false, IfOk, IfErr, OnOk};
 ghost use Rattle.acct_program_jobs.specs.Files.{IsUnlooked};
-ghost use Rattle.acct_program_jobs.specs.Looks.{HasNoFrame, IsDatabaseFile, IsEmptyBook};
-ghost use Rattle.acct_program_jobs.specs.Looks.{IsReadable, IsSeen, MayOpen, WasSaidOf};
+ghost use Rattle.acct_program_jobs.specs.Looks.{IsDatabaseFile, IsEmptyBook, IsNoDatabase, IsSeen};
+ghost use Rattle.acct_program_jobs.specs.Looks.{MayOpen, TellsFrames, TellsReadable, WasSaidOf};
 
 use crate::book_file::BookFile;
 use acct_model::Text;
 use acct_program_commands::{Fault, StoreFault};
 use acct_reads::{ReadsFiles, log_name};
-use acct_sql_log::{DATABASE_HEADER_OCTETS, LOG_HEADER_OCTETS, damage_beside, has_lost_book};
+use acct_sql_log::{
+    DATABASE_HEADER_OCTETS, LOG_HEADER_OCTETS, Unread, damage_beside, has_lost_book,
+};
+use std::alloc::AllocError;
 
 /// The files of a book that may be opened.
 #[derive(Clone, Copy)]
@@ -42,10 +44,10 @@ impl<'a> Looked<'a> {
             → IsEmptyBook R.leads_to R.was_opened R.Reader.remaining R.was_asked
             files.entry.database.now }
     {
-        match check_file(runtime, files.database, is_new) {
-            Ok(()) if is_readable(runtime, files) => Ok(Looked { files }),
-            Ok(()) => Err(Fault::CannotOpen),
-            Err(fault) => Err(fault),
+        check_file(runtime, files.database, is_new)?;
+        match is_readable(runtime, files) {
+            Ok(true) => Ok(Looked { files }),
+            Ok(false) | Err(_) => Err(Fault::CannotOpen),
         }
     }
 
@@ -84,45 +86,46 @@ fn check_existing<R: ReadsFiles + AllocGlobal>(runtime: &R, file: &Text) -> Resu
     ensures seen { OnOk result (WasSaidOf R.leads_to R.was_opened R.Reader.remaining R.was_asked
         file.now IsDatabaseFile) }
     ensures why { IfErr result (IsUnlooked false) }
+    ensures refused { result ≡ Err Fault.CannotOpen → WasSaidOf R.leads_to R.was_opened
+        R.Reader.remaining R.was_asked file.now IsNoDatabase }
     ensures empty { result ≡ Err (Fault.Store StoreFault.NotABook)
         → IsEmptyBook R.leads_to R.was_opened R.Reader.remaining R.was_asked file.now }
 {
     match runtime.metadata(file.as_str()) {
         Ok(found) if !found.is_file() => Err(Fault::CannotOpen),
         Ok(found) if found.len() >= DATABASE_HEADER_OCTETS => Ok(()),
-        Ok(found) if found.len() == 0 && !has_log(runtime, file) => {
-            Err(Fault::Store(StoreFault::NotABook))
-        }
-        _ => Err(Fault::CannotOpen),
+        Ok(found) if found.len() == 0 => match has_log(runtime, file) {
+            Ok(false) => Err(Fault::Store(StoreFault::NotABook)),
+            Ok(true) | Err(_) => Err(Fault::CannotOpen),
+        },
+        Ok(_) | Err(_) => Err(Fault::CannotOpen),
     }
 }
 
-// Whether the log of a database may be read: it was read to its end and is not damaged, or what is
-// behind the damage may be lost.
-fn is_readable<R: ReadsFiles + AllocGlobal>(runtime: &R, files: BookFile<'_>) -> bool
-    ensures { result ≡ true → IsReadable R.leads_to R.was_opened R.Reader.remaining R.was_asked
-        files.entry.database.now files.entry.loses_commits }
+// Whether the log of a database may be read: it has no damage, or what is behind the damage may be
+// lost.
+fn is_readable<R: ReadsFiles + AllocGlobal>(
+    runtime: &R,
+    files: BookFile<'_>,
+) -> Result<bool, Unread>
+    ensures { IfOk result (TellsReadable R.leads_to R.was_opened R.Reader.remaining R.was_asked
+        files.entry.database.now files.entry.loses_commits) }
 {
     if files.loses_commits {
-        return true;
+        return Ok(true);
     }
-    match damage_beside(runtime, runtime.alloc(), files.database.as_str()) {
-        Ok(None) => true,
-        Ok(Some(_)) | Err(_) => false,
-    }
+    let damage = damage_beside(runtime, runtime.alloc(), files.database.as_str())?;
+    Ok(damage.is_none())
 }
 
-// Whether the log of a database has a frame. If there is no memory for its name, it counts as
-// having one.
-fn has_log<R: ReadsFiles + AllocGlobal>(runtime: &R, file: &Text) -> bool
-    ensures { result ≡ false → (log : List ℕ) × IsLogOf R.leads_to file.now log
-        × WasSaidOf R.leads_to R.was_opened R.Reader.remaining R.was_asked log HasNoFrame }
+// Whether the log of a database is long enough for a frame. One that is not there is not.
+fn has_log<R: ReadsFiles + AllocGlobal>(runtime: &R, file: &Text) -> Result<bool, AllocError>
+    ensures { IfOk result (TellsFrames R.leads_to R.was_opened R.Reader.remaining R.was_asked
+        file.now) }
 {
-    let Ok(log) = log_name(runtime, runtime.alloc(), file.as_str()) else {
-        return true;
-    };
+    let log = log_name(runtime, runtime.alloc(), file.as_str())?;
     match runtime.metadata(log.as_str()) {
-        Ok(found) => found.len() > LOG_HEADER_OCTETS,
-        Err(_) => false,
+        Ok(found) => Ok(found.len() > LOG_HEADER_OCTETS),
+        Err(_) => Ok(false),
     }
 }
