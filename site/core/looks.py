@@ -19,7 +19,7 @@ TRY = "import sqlite3, sys; it = sqlite3.connect(sys.argv[1]); it.isolation_leve
       "said = it.execute('PRAGMA quick_check').fetchone()[0]; it.execute('BEGIN IMMEDIATE'); " \
       "print(said)"
 CURES = {"locked": "end who has it open: ls -l /proc/*/fd | grep {path}",
-         "open database|readonly|disk I/O": "chown {user}: {path}*; its disk may be read-only",
+         "open database|readonly|disk I/O": "chown -h {user}: {path}*; its disk may be read-only",
          "": "stop radacctd-site.service and radacctd-minute.timer, move it aside, and put that of the "
              "last copy there, of {user} and its mode: {backups}/site-*/{name}"}
 

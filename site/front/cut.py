@@ -110,7 +110,7 @@ def send_again(kept, now):
     for name in os.listdir(os.path.join(kept, "aside")):
         path = os.path.join(kept, "aside", name)
         if now - os.stat(path).st_mtime > HOUR:
-            os.rename(path, os.path.join(kept, "again", name))
+            os.rename(path, os.path.join(kept, "again", f"{name}.{now:.0f}"))
             print(f"{name}: reports that radacctd did not take are sent again", flush=True)
 
 

@@ -96,9 +96,10 @@ def kept():
     """Reports that radacctd has not answered: while it is away they wait, and are sent by
     themselves. What it refuses is set aside.
     """
-    yield from looks.waits(f"{setup.KEPT}/waits", "reports-wait", "radacctd",
-                           "systemctl status radacctd; journalctl -u radacctd -n 20")
-    for name in ("aside", "again", "lost"):
+    for name in ("waits", "again"):
+        yield from looks.waits(f"{setup.KEPT}/{name}", "reports-wait", "radacctd",
+                               "systemctl status radacctd; journalctl -u radacctd -n 20")
+    for name in ("aside", "lost"):
         if looks.oldest_kept(f"{setup.KEPT}/{name}") is not None:
             yield Fault("reports-aside", f"{setup.KEPT}/{name} has reports that radacctd does not "
                         "take", "journalctl -u radacctd | grep drop says why; look at the device")

@@ -164,26 +164,25 @@ class Refused(OneLab):
         start = time.time()
         self.assertTrue(it.report(report("live"), wait=1))
         self.assertTrue(waited(lambda: len(self.rows()) == 7, 40))
-        self.assertLess(time.time() - start, 30)
-        self.assertEqual((it.waiting(), it.waiting("aside")), (0, 1))
+        self.assertLess(time.time() - start, 15)
+        self.assertTrue(waited(lambda: it.waiting("aside") == 1, 60))
+        self.assertEqual((it.waiting(), it.waiting("again")), (0, 0))
 
     def test_many_of_one_access_server(self):
         it = self.lab
         it.stop_book()
-        for n in range(12):
+        for n in range(5):
             self.quick(bad(f"bad-{n}", "ap-bad", [(CLASS, b"debit")]), 1)
         for n in range(6):
             self.quick(report(f"good-{n}"), 1)
-        self.assertTrue(waited(lambda: it.waiting() == 18))
+        self.assertTrue(waited(lambda: it.waiting() == 11))
         it.start_book()
         start = time.time()
         for n in range(20):
             self.assertTrue(it.report(report(f"live-{n}"), wait=1))
-        self.assertTrue(waited(lambda: len(self.rows()) == 26, 200))
-        print(
-            "12 refused reports held up kept ones for", round(time.time() - start), "s", flush=True
-        )
-        self.assertEqual(it.waiting("aside"), 12)
+        self.assertTrue(waited(lambda: len(self.rows()) == 26, 60))
+        print("5 refused reports held up kept ones for", round(time.time() - start), "s", flush=True)
+        self.assertTrue(waited(lambda: it.waiting("aside") == 5, 200))
 
     def test_while_the_book_is_away_nothing_goes_aside(self):
         it = self.lab
@@ -199,7 +198,7 @@ class Refused(OneLab):
         it.stop_book()
         it.start_book(lab.free_port())
         self.quick(report("later", 5 * lab.MEBIBYTE, more=[(CLASS, given)]), 1)
-        self.assertTrue(waited(lambda: it.waiting("aside") == 1, 40))
+        self.assertTrue(waited(lambda: it.waiting("aside") == 1, 60))
         it.stop_book()
         it.start_book()
         cut.send_again(it.kept, time.time())
@@ -214,7 +213,7 @@ class Refused(OneLab):
         self.quick(bad("old", more=[(41, 90000)]), 1)
         self.assertTrue(waited(lambda: it.waiting() == 1))
         it.start_book()
-        self.assertTrue(waited(lambda: it.waiting("lost") == 1, 40))
+        self.assertTrue(waited(lambda: it.waiting("lost") == 1, 60))
         self.assertEqual(it.waiting("aside"), 0)
 
 
@@ -283,7 +282,7 @@ class Exact(OneLab):
         for n, pair in enumerate(self.WRONG):
             wrong = [(STATUS, STOP), (ID, f"w{n}"), (USER, "al"), (NAS_NAME, "ap"), pair]
             self.assertFalse(it.report(wrong, wait=0.2))
-        self.assertTrue(waited(lambda: it.waiting("aside") == len(self.WRONG), 200))
+        self.assertTrue(waited(lambda: it.waiting("aside") == len(self.WRONG), 300))
         self.assertEqual((it.waiting(), self.rows()), (0, {}))
 
     def test_what_is_lost_of_a_kept_report(self):

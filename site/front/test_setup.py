@@ -168,7 +168,7 @@ class Looks(unittest.TestCase):
         now = time.time()
         for waits, aside, names in ((None, None, []), (now - 60, None, []),
                                     (now - 600, None, ["reports-wait"]),
-                                    (None, now, ["reports-aside"] * 3)):
+                                    (None, now, ["reports-aside"] * 2)):
             oldest = lambda path, one=waits, two=aside: one if path.endswith("/waits") else two
             with mock.patch.object(of_core, "oldest_kept", oldest):
                 self.assertEqual([it.name for it in looks.kept()], names)

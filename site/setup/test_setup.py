@@ -686,7 +686,7 @@ class Check(Folder):
         os.remove(self.path)
         os.mkdir(self.path)
         [fault] = looks.store(self.path)
-        self.assertIn(f"chown radacctd-site: {self.path}*", fault.cure)
+        self.assertIn(f"chown -h radacctd-site: {self.path}*", fault.cure)
 
     def test_a_desk_that_listens_beyond_the_machine(self):
         quiet = dict.fromkeys(("away", "counts", "printed"), lambda: ())
