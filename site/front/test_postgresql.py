@@ -3,10 +3,12 @@ stand-in. Needs root, postgresql, freeradius-postgresql."""
 import glob
 import os
 import shutil
+import signal
 import subprocess
 import unittest
 
 import test_lab as lab
+import test_radius as radius
 from test_logins import stamp, stamps
 
 BIN = sorted(glob.glob("/usr/lib/postgresql/*/bin"))[-1:]
@@ -39,7 +41,7 @@ class Users(unittest.TestCase):
         with open(os.path.join(self.lab.raddb, "users.conf"), "w", encoding="utf-8") as file:
             file.write(
                 f'driver = "rlm_sql_postgresql", dialect = "postgresql"\nserver = "127.0.0.1", port = {self.port}\n'
-                'login = "postgres", radius_db = "postgres"\n'
+                'login = "postgres", radius_db = "postgres", query_timeout = 3\n'
             )
         self.lab.start_book()
         self.lab.start_front()
@@ -80,6 +82,26 @@ class Users(unittest.TestCase):
             self.assertEqual(it.login().code, 3)
         self.server("start")
         self.assertTrue(lab.waited(lambda: it.login().code == 2, 15))
+
+    def test_a_database_that_stands_still_holds_no_report(self):
+        """All threads wait for it, and then no longer."""
+        it, folder = self.lab, self.data
+        self.assertEqual(it.login().code, 2)
+        with open(os.path.join(folder, "postmaster.pid"), encoding="ascii") as file:
+            pid = file.readline().strip()
+        children = subprocess.run(["pgrep", "-P", pid], stdout=subprocess.PIPE, text=True, check=True)
+        pids = list(map(int, [pid, *children.stdout.split()]))
+        for one in pids:
+            os.kill(one, signal.SIGSTOP)
+        try:
+            with radius.opened("127.0.0.1", it.logins) as socket:
+                for n in range(40):
+                    socket.send(radius.login_packet("al", "right", number=n))
+            self.assertTrue(it.report([(radius.STATUS, radius.STOP), (radius.ID, "s"),
+                                       (radius.USER, "al"), (42, 1000)], tries=3, wait=5))
+        finally:
+            for one in pids:
+                os.kill(one, signal.SIGCONT)
 
 
 if __name__ == "__main__":

@@ -18,7 +18,7 @@ TABLES = "".join(f"CREATE TABLE {name} (id INTEGER PRIMARY KEY, {whose} TEXT NOT
                      ("radusergroup", "username", "groupname TEXT, priority INTEGER DEFAULT 1")))
 POSTGRESQL = """\
 # Where users and groups are: FreeRADIUS' schema. `radacctl setup` wrote this file.
-driver = "rlm_sql_postgresql", dialect = "postgresql"
+driver = "rlm_sql_postgresql", dialect = "postgresql", query_timeout = 3
 server = "{server}", port = {port}, radius_db = "{database}"
 login = "{login}", password = "{password}"
 """
