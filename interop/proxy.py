@@ -41,7 +41,7 @@ class Proxy:
             ("listen 80;", f"listen 127.0.0.1:{self.plain};"),
             ("/etc/ssl/radacctd.pem", f"{folder}/cert.pem"),
             ("/etc/ssl/private/radacctd.key", f"{folder}/cert.key"),
-            ("/run/radacctd-site.socket", service), ("/var/log/nginx", self.logs)):
+            ("/run/radacctd-site.socket", service)):
             if old not in text:
                 raise SystemExit(f"nginx' file has no longer: {old}")
             text = text.replace(old, new)

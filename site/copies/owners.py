@@ -15,7 +15,7 @@ said = new.execute("PRAGMA integrity_check").fetchone()[0]
 assert said == "ok", f"PRAGMA integrity_check says {said}"
 sys.stdout.buffer.write(new.serialize())
 """
-WRITE = 'umask 077; rm -f "$1"; exec cat >"$1"'
+WRITE = 'umask 077; rm -rf "$1"; exec cat >"$1"'
 # A file loses its name first and gets it last: without it nothing takes a log for a book.
 RENAME = """
 set -e; path=$1 date=$2; shift 2

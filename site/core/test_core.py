@@ -150,8 +150,10 @@ class Logins(Site):
         people.put(self.db, "anna", CASHIER, PASSWORD)
         browser = Browser(self.app)
         browser.post("/login/", name="anna", password=PASSWORD)
-        browser.cookies["a,b"] = "c"
+        browser.cookies = {"a,b": "c", "path": "1", "\xe9": "1", **browser.cookies}
         self.assertEqual(browser.get("/desk/"), 200)
+        for kind in ("multipart/form-data", "multipart/mixed; boundary=x"):
+            self.assertEqual(browser.ask("POST", "/login/", {"name": "x"}, CONTENT_TYPE=kind), 403)
         browser.cookies["a" * 8000] = "c d"
         begun = time.monotonic()
         self.assertEqual((browser.get("/desk/"), time.monotonic() - begun < 0.2), (200, True))

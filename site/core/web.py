@@ -20,6 +20,7 @@ from radacctd_site.core import (
 from radacctd_site.core.features import ANYBODY, NOBODY, STAFF, TOP
 
 COOKIE, LANGUAGES = "__Host-radacctd", {"en": "English", "de": "Deutsch", "fr": "Français"}
+OURS = re.compile(r"(?:^|; ?)((?:__Host-[a-z]+|language)=[\w.-]*)(?=;|$)", re.ASCII)
 TOKEN = re.compile("[0-9a-f]{32}")
 HEADERS = {
     "Content-Security-Policy": "default-src 'none'; style-src 'self'; img-src 'self'; "
@@ -50,7 +51,7 @@ def environment(language):
 def language_of(request):
     """The language that a reader chose, or that the browser asks for."""
     asked = [request.query.get("lang", ""), request.get_cookie("language") or ""]
-    asked += re.findall(r"(?:^|,)\s*([a-z]{2})", request.get_header("Accept-Language", ""))
+    asked += re.findall(r"(?:^|,)\s*([a-z]{2})", request.environ.get("HTTP_ACCEPT_LANGUAGE", ""))
     return next((it for it in asked if it in LANGUAGES), "en")
 
 
@@ -181,9 +182,10 @@ def answered(page, does, parts):
 def guarded(page, does):
     """The same, also if site.db cannot be used: then nothing was sent."""
     def handler(**parts):
-        # Of a header with anything else nothing could be read.
-        bottle.request.environ["HTTP_COOKIE"] = "; ".join(re.findall(
-            r"(?:^|; ?)([\w-]+=[\w.-]*)(?=;|$)", bottle.request.get_header("Cookie", "")))
+        # Of a header with anything else nothing could be read. A form is one of a page's.
+        given = bottle.request.environ
+        given["HTTP_COOKIE"] = "; ".join(OURS.findall(given.get("HTTP_COOKIE", "")))
+        given["CONTENT_TYPE"] = "application/x-www-form-urlencoded"
         try:
             return answered(page, does, parts)
         except (sqlite3.Error, OSError, Failed) as why:

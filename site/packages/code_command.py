@@ -92,7 +92,8 @@ def main(words):
             # Only who prints needs what pages are made with: the package suggests it.
             from radacctd_site.core import paper
             from radacctd_site.packages import pages
-            print(paper.page("packages/cards.html", pages.values(db, words.what, found)))
+            page = paper.page("packages/cards.html", pages.values(db, words.what, found))
+            print(names.plain(page, "\n\xa0"))
         else:
             end(db, words)
     return 0

@@ -10,7 +10,6 @@ CRITICAL = {
     "balances-old": "the server does not write the balances",
     "disk-full": "a disk of the site is nearly full",
     "clock-wrong": "the clock is before what the site wrote, or before 2026",
-    "drop-secret": "an access server has another secret than radacctd",
     "nginx-wrong": "nginx' configuration has a fault, or its page is not that of the set-up",
     "certificate-ended": "a certificate does not hold now, or is not there",
     "certificate-other": "the pages' certificate is of another name than `host`",
@@ -18,6 +17,7 @@ CRITICAL = {
     "try-failed": "a login, a report, a sale or a page that was tried is not answered as it should",
 }
 WARNINGS = {
+    "drop-secret": "an access server has another secret than radacctd",
     "differs": "what the set-up makes is missing, or another one, or has other rights",
     "unit-failed": "a unit of the site has failed",
     "desk-open": "radacctd's desk, which sells, listens beyond this machine",
