@@ -36,7 +36,7 @@ def make(taken):
     os.mkdir(NEW, 0o700)
     seconds = book.copy(NEW)
     for path, (user, _) in places.STORES.items():
-        if path.endswith("site.db") or os.path.exists(path):
+        if os.path.exists(path):
             owners.read_store(path, user, f"{NEW}/{os.path.basename(path)}")
     take_roots(f"{NEW}/{kept.ROOTS}")
     lacks = postgres.dump(f"{NEW}/{kept.DUMP}")
