@@ -68,7 +68,7 @@ class Followed(unittest.TestCase):
     @unittest.skipUnless(shutil.which("sqlite3"), "no sqlite3")
     def test_users_are_imported_and_removed(self):
         front = blocks_of(text_of("../site/front/README"))
-        put, remove = [textwrap.dedent(it.text) for it in front if "runuser " in it.text]
+        put, remove = [textwrap.dedent(it.text) for it in front if "-u radacctd-site" in it.text]
         with tempfile.TemporaryDirectory() as folder, \
                 sqlite3.connect(f"{folder}/users.db") as users:
             for table, columns in (("radcheck", "username, attribute, op, value"),
