@@ -34,12 +34,15 @@ def make(taken):
     the copy lacks."""
     shutil.rmtree(NEW, ignore_errors=True)
     os.mkdir(NEW, 0o700)
-    seconds = book.copy(NEW)
+    seconds, lacks = book.copy(NEW), None
     for path, (user, _) in places.STORES.items():
+        name = os.path.basename(path)
         if os.path.exists(path):
-            owners.read_store(path, user, f"{NEW}/{os.path.basename(path)}")
+            owners.read_store(path, user, f"{NEW}/{name}")
+        elif any(os.path.exists(f"{places.FOLDER}/{it}/{name}") for it in places.names()):
+            lacks = f"the copy lacks {path}, which an older one has"
     take_roots(f"{NEW}/{kept.ROOTS}")
-    lacks = postgres.dump(f"{NEW}/{kept.DUMP}")
+    lacks = postgres.dump(f"{NEW}/{kept.DUMP}") or lacks
     kept.seal(NEW, time.strftime("%F %T", time.localtime(taken)))
     return seconds, lacks
 

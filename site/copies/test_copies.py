@@ -248,6 +248,21 @@ class Taking(Site):
         store.write_bytes(store.read_bytes()[:4096] + b"\xff" * 4096)
         self.assertRaisesRegex(Failed, f"as {PAGES}", self.night)
 
+    def test_a_store_that_was_there_fails_the_night_which_has_its_copy(self):
+        self.night()
+        os.rename(f"{self.top}/site/site.db", f"{self.top}/site/away")
+        for nights in (2, 3):
+            self.assertRaisesRegex(Failed, "lacks .*site.db, which an older one has", self.night)
+            self.assertEqual(len(places.names()), nights)
+            time.sleep(1)
+
+    def test_a_view_is_no_table(self):
+        """It may have no end, and no set-up after a restore could write it."""
+        with contextlib.closing(sqlite3.connect(f"{self.top}/site/site.db")) as made, made:
+            made.execute("CREATE VIEW other AS WITH RECURSIVE it(x) AS (SELECT 1 UNION ALL "
+                         "SELECT x FROM it) SELECT x FROM it")
+        self.assertRaisesRegex(Failed, "is a view or a trigger", self.night)
+
     def test_a_database_that_is_away_fails_the_night_which_has_its_copy(self):
         self.patch(postgres, settings=lambda: {"server": "127.0.0.1", "port": "1"})
         self.assertRaisesRegex(Failed, "lacks FreeRADIUS' database", self.night)

@@ -14,10 +14,12 @@ from radacctd_site.core.steps import Fault
 SOON, WAITS, SILENT = 21 * 86400, 300, 2 * 86400
 # Of how many accounts the sessions are looked at.
 MOST = 5000
-# What tells whether a store is sound, and may be written now; and the cure of each reason.
+# What tells whether a store is sound, and may be written now; and the cure of each reason. A view in
+# the place of a table may have no end: who reads it stands still.
 TRY = "import sqlite3, sys; it = sqlite3.connect(sys.argv[1]); it.isolation_level = None; " \
-      "said = it.execute('PRAGMA quick_check').fetchone()[0]; it.execute('BEGIN IMMEDIATE'); " \
-      "print(said)"
+      "said = it.execute('PRAGMA quick_check').fetchone(); it.execute('BEGIN IMMEDIATE'); " \
+      "print(*it.execute('SELECT type, name FROM sqlite_master WHERE type IN (?, ?)', " \
+      "('view', 'trigger')).fetchone() or said)"
 CURES = {"locked": "end who has it open: ls -l /proc/*/fd | grep {path}",
          "open database|readonly|disk I/O": "chown -h {user}: {path}*; its disk may be read-only",
          "": "stop radacctd-site.service and radacctd-minute.timer, move it aside, and put that of the "

@@ -427,9 +427,12 @@ class Plans(OneLab):
         rate = lambda reply: radius.first(reply, (radius.MIKROTIK, 8))
         slow = it.login("ppp", more=[(7, 1)])
         self.assertEqual((stamp(slow), rate(slow)), ("free;;ppp", b"1M/1M"))
+        # Nobody is priced by it: so it logs in anew each hour, and after a sale it is priced.
+        self.assertEqual(radius.first(slow, 27), (3600).to_bytes(4, "big"))
         it.sell("ppp", 100)
         fast = it.login("ppp", more=[(7, 1)])
         self.assertEqual((stamp(fast), rate(fast)), ("gold;;ppp", b"50M/50M"))
+        self.assertIsNone(radius.first(fast, 27))
 
 
 class Codes(OneLab):
