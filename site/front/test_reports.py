@@ -288,7 +288,7 @@ class Exact(OneLab):
                     self.assertLess(abs(now - int(row["last"])), 60)
 
     WRONG = ((42, b"abc"), (43, bytes(5)), (52, b"\1"), (53, bytes(8)), (46, bytes(8)), (49, b"\1"),
-             (8, b"\x0a\0\1"), (8, bytes(16)))
+             (8, b"\x0a\0\1"), (8, bytes(16)), (41, b"\xff\xff\xff\xfa"))
 
     def test_a_wrong_size_is_not_taken(self):
         """It is refused as radacctd refuses it, also once it was kept."""
