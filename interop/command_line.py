@@ -8,7 +8,7 @@ import sys
 import __main__
 
 NOT_BUILT = "the program is not built of these sources: bin/build"
-IS_BUILT = os.path.join(os.path.dirname(os.path.abspath(__file__)), "..", "bin", "is-built")
+BUILD = os.path.join(os.path.dirname(os.path.abspath(__file__)), "..", "bin", "build")
 
 
 def words(*numbers, parts=()):
@@ -33,7 +33,7 @@ def words(*numbers, parts=()):
 
 
 def is_built():
-    return subprocess.run([IS_BUILT]).returncode == 0
+    return subprocess.run([BUILD, "-q"]).returncode == 0
 
 
 def must_be_built():

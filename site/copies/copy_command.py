@@ -8,7 +8,7 @@ copied, and FreeRADIUS keeps reports meanwhile. A copy gets its name once it was
 import os
 import time
 
-from radacctd_site.core import Failed, machine
+from radacctd_site.core import Failed, machine, names
 from radacctd_site.copies import book, kept, taking
 
 UNIT = "radacctd-copy.service"
@@ -29,8 +29,8 @@ def now():
     if os.path.exists(book.STOPPED):
         os.remove(book.STOPPED)
         machine.given(["systemctl", "start", book.UNIT])
-    print(machine.given(["journalctl", "-u", UNIT, "-t", "radacctl", "--since", begun, "-o", "cat"]),
-          end="")
+    words = ["journalctl", "-u", UNIT, "-t", "radacctl", "--since", begun, "-o", "cat"]
+    print(names.plain(machine.given(words), "\n"), end="")
     if status:
         raise Failed(f"{UNIT} has failed")
 

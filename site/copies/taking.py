@@ -43,7 +43,8 @@ def make(taken):
             lacks = f"the copy lacks {path}, which an older one has"
     take_roots(f"{NEW}/{kept.ROOTS}")
     lacks = postgres.dump(f"{NEW}/{kept.DUMP}") or lacks
-    kept.seal(NEW, time.strftime("%F %T", time.localtime(taken)))
+    moment = time.strftime("%F %T", time.localtime(taken))
+    kept.seal(NEW, f"{moment}, and {lacks}" if lacks else moment)
     return seconds, lacks
 
 
@@ -83,8 +84,9 @@ def send_off(path):
 def remove_old():
     """Each one loses its name first: half a copy is never taken for one."""
     exported = os.listdir(places.EXPORTS)
+    days = sorted({it.partition(".")[0] for it in exported})[:-places.EXPORTED_DAYS]
     old = [f"{places.FOLDER}/{it}" for it in places.names()[:-places.NIGHTS]]
-    old += [f"{places.EXPORTS}/{it}" for it in sorted(exported)[:-places.EXPORTED_DAYS]]
+    old += [f"{places.EXPORTS}/{it}" for it in exported if it.partition(".")[0] in days]
     for path in old:
         rename(path, f"{places.FOLDER}/{OLD}")
         shutil.rmtree(f"{places.FOLDER}/{OLD}")
@@ -94,7 +96,7 @@ def remove_old():
 def free_name(taken):
     """The day's; a second one of a day has its time, too."""
     name = time.strftime("%F", time.localtime(taken))
-    is_there = os.path.exists(f"{places.FOLDER}/site-{name}")
+    is_there = any(map(os.path.exists, (f"{places.FOLDER}/site-{name}", f"{places.EXPORTS}/{name}")))
     return time.strftime("%F.%H%M%S", time.localtime(taken)) if is_there else name
 
 
@@ -142,7 +144,8 @@ def night():
         seconds, lacks = make(taken)
         path = checked(name)
         export(path, name)
-        remove_old()
+        if not lacks:
+            remove_old()
         send_off(path)
         carry_forward()
     finally:

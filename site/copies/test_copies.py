@@ -250,11 +250,26 @@ class Taking(Site):
 
     def test_a_store_that_was_there_fails_the_night_which_has_its_copy(self):
         self.night()
+        self.patch(places, NIGHTS=1)
         os.rename(f"{self.top}/site/site.db", f"{self.top}/site/away")
         for nights in (2, 3):
             self.assertRaisesRegex(Failed, "lacks .*site.db, which an older one has", self.night)
             self.assertEqual(len(places.names()), nights)
+            self.assertIn("lacks", kept.check(f"{places.FOLDER}/{places.names()[-1]}"))
             time.sleep(1)
+
+    def test_more_copies_a_day_than_stay(self):
+        self.patch(places, NIGHTS=2, EXPORTED_DAYS=1)
+        os.makedirs(f"{places.EXPORTS}/2020-01-01")
+        taken = []
+        for _ in range(4):
+            before = set(places.names())
+            self.night()
+            taken += set(places.names()) - before
+            time.sleep(1.1)
+        self.assertEqual(places.names(), taken[-2:])
+        exported = sorted(os.listdir(places.EXPORTS))
+        self.assertEqual([f"site-{it}" for it in exported], taken)
 
     def test_a_view_is_no_table(self):
         """It may have no end, and no set-up after a restore could write it."""

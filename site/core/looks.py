@@ -18,12 +18,13 @@ MOST = 5000
 # the place of a table may have no end: who reads it stands still.
 TRY = "import sqlite3, sys; it = sqlite3.connect(sys.argv[1]); it.isolation_level = None; " \
       "said = it.execute('PRAGMA quick_check').fetchone(); it.execute('BEGIN IMMEDIATE'); " \
-      "print(*it.execute('SELECT type, name FROM sqlite_master WHERE type IN (?, ?)', " \
+      "print(*it.execute('SELECT type FROM sqlite_master WHERE type IN (?, ?)', " \
       "('view', 'trigger')).fetchone() or said)"
 CURES = {"locked": "end who has it open: ls -l /proc/*/fd | grep {path}",
          "open database|readonly|disk I/O": "chown -h {user}: {path}*; its disk may be read-only",
-         "": "stop radacctd-site.service and radacctd-minute.timer, move it aside, and put that of the "
-             "last copy there, of {user} and its mode: {backups}/site-*/{name}"}
+         "": "stop radacctd-site.service and radacctd-minute.timer; setsid -w runuser -u {user} sh "
+             "-c 'for it in {path}*; do mv $it $it.bad; done; cat >{path}' "
+             "<{backups}/site-DATE/{name}; radacctl setup"}
 
 
 def secrets(path, clients):

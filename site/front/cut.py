@@ -27,23 +27,13 @@ def value(text, name):
     return found[1].strip("\"'") if found else ""
 
 
-def hosts(block):
-    """The addresses of a client: its own, or of a network those of its members."""
-    return re.findall(r"[^\s,]+", value(block, "members")) or [value(block, "ip(?:v[46])?addr")]
-
-
-def lacks(text):
-    """Whether one of a client's addresses cannot be asked, or is not read."""
-    lines = " ".join(re.findall(r"(?m)^[^#\n]*?\bmembers[ \t]*=([^#\n]*)", text))
-    return len(servers(text)) <= max(1, len({*re.findall(r"[\w/-]*[.:][\w.:/-]*", lines)}))
-
-
 def servers(text):
     """Who can be asked to end a session, of clients.conf: by NAS-Identifier, and by address. Of a
     network all members are asked: those without that session refuse."""
     found = {}
     for name, block in BLOCK.findall(text):
-        for host in hosts(block):
+        members = re.findall(r"[^\s,]+", value(block, "members"))
+        for host in members or [value(block, "ip(?:v[46])?addr")]:
             with contextlib.suppress(ValueError):
                 address = ipaddress.ip_address(host)
                 it = {key: value(block, key) for key in ("secret", "user_name")}

@@ -48,12 +48,18 @@ def access_servers():
         if re.fullmatch(r"0\.0\.0\.0|::|\*|.*/[0-7]", address):
             yield Fault("front-wrong", f"client {name} of {RADDB}/clients.conf is every address",
                         f"write the access servers' own addresses; {RESTART}")
-        elif port != "no" and cut.lacks(f"client {name} {{{text}}}"):
+        elif port != "no" and lacks(f"client {name} {{{text}}}"):
             yield Fault("cut-off", f"client {name} of {RADDB}/clients.conf: nobody is cut off there",
                         'write cut = 3799, and of a network members = "ADDRESS .."; else cut = no')
     if clients.value(files.text(f"{RADDB}/settings.conf"), "observe") == "yes":
         yield Fault("front-wrong", "observe = yes: whoever was proved is let in, without a quota",
                     f"once you have seen enough, write observe = no into settings.conf; {RESTART}")
+
+
+def lacks(text):
+    """Whether one of a client's addresses cannot be asked, or is not read."""
+    lines = " ".join(re.findall(r"(?m)^[^#\n]*?\bmembers[ \t]*=([^#\n]*)", text))
+    return len(cut.servers(text)) <= max(1, len({*re.findall(r"[\w/-]*[.:][\w.:/-]*", lines)}))
 
 
 def users_here():

@@ -73,7 +73,7 @@ class Proof:
             raise Failed(f"radacctd's desk does not answer the key of {RADDB}/settings.conf: "
                          f"{said[0] or said[1]}. See systemctl status radacctd")
         found = json.loads(said[1])
-        return found.get("octets", 0), found.get("stamp")
+        return found.get("octets", 0), found.get("stamp", "").encode().hex()
 
     def expect(self, octets, what):
         found = self.asked()[0]
@@ -99,14 +99,14 @@ class Proof:
                              "journalctl -u radacctd-front")
             said = self.client("logins", "auth", lines)
         found = re.search(r"\tClass = 0x([0-9a-f]+)", said)
-        return found and bytes.fromhex(found[1]).decode()
+        return found and found[1]
 
     def report(self, stamp, octets):
         """Sends a Stop of so many octets, which must be answered: then the book has it."""
         name = {"out": "Output"}.get(self.plan["count"], "Input")
         said = self.client("reports", "acct", [
             "Acct-Status-Type = Stop", f'User-Name = "{TEST_NAME}"',
-            *([f'Class = "{stamp}"'] if stamp else []),
+            *([f"Class = 0x{stamp}"] if stamp else []),
             f'Acct-Session-Id = "{secrets.token_hex(8)}"',
             f"Acct-{name}-Octets = {octets % 2**32}", f"Acct-{name}-Gigawords = {octets >> 32}"])
         if "Received Accounting-Response" not in said:

@@ -165,6 +165,44 @@ class Answers(OneLab):
             it.start_front()
 
 
+    def test_a_full_disk_keeps_what_was_kept(self):
+        """A report goes to the other reader only if it was written there: rlm_detail says ok."""
+        it, again = self.lab, os.path.join(self.lab.kept, "again")
+        words = ["mount", "-t", "tmpfs", "-o", "size=4k,mode=0700,uid=freerad", "none", again]
+        subprocess.run(words, check=True)
+        try:
+            pathlib.Path(again, "full").write_bytes(bytes(4096))
+            it.stop_book()
+            it.start_book(lab.free_port())
+            for n in range(4):
+                self.quick(report(f"r{n}", more=[(41, 90000)] if n % 2 else []), 1)
+            time.sleep(20)
+            self.assertEqual(it.waiting(), 4)
+        finally:
+            it.stop_front()
+            subprocess.run(["umount", again], check=True)
+            it.start_front()
+        it.stop_book()
+        it.start_book()
+        self.assertTrue(waited(lambda: len(self.rows()) == 4 and it.waiting() == 0))
+
+    def test_taken_for_dead(self):
+        """FreeRADIUS takes radacctd for dead, here after two timeouts: what comes then is kept."""
+        it, names = self.lab, {f"n{n}" for n in range(30)}
+        it.stop_front()
+        passing = os.path.join(it.raddb, "passing")
+        lab.edited(passing, [("response_timeouts = 1000", "response_timeouts = 2")])
+        it.start_front()
+        it.stop_book()
+        for name in names:
+            self.quick(report(name))
+        # A device's repeat may be kept, too.
+        self.assertTrue(waited(lambda: it.waiting() >= 30, 10))
+        it.start_book()
+        self.assertTrue(waited(lambda: set(self.rows()) == names, 60))
+        self.assertEqual([it.waiting(name) for name in ("again", "aside", "lost")], [0] * 3)
+
+
 class Refused(OneLab):
     """A report that radacctd never takes holds up nobody."""
 
@@ -288,7 +326,7 @@ class Exact(OneLab):
                     self.assertLess(abs(now - int(row["last"])), 60)
 
     WRONG = ((42, b"abc"), (43, bytes(5)), (52, b"\1"), (53, bytes(8)), (46, bytes(8)), (49, b"\1"),
-             (8, b"\x0a\0\1"), (8, bytes(16)), (41, b"\xff\xff\xff\xfa"))
+             (8, b"\x0a\0\1"), (8, bytes(16)))
 
     def test_a_wrong_size_is_not_taken(self):
         """It is refused as radacctd refuses it, also once it was kept."""
@@ -298,6 +336,19 @@ class Exact(OneLab):
             self.assertFalse(it.report(wrong, wait=0.2))
         self.assertTrue(waited(lambda: it.waiting("aside") == len(self.WRONG), 300))
         self.assertEqual((it.waiting(), self.rows()), (0, {}))
+
+    def test_a_delay_near_two_to_the_32(self):
+        """Nothing is added to it: the sum would be some seconds. It is as if it came straight."""
+        it, delay = self.lab, [(41, 2**32 - 6)]
+        self.assertTrue(it.report(report("live", more=delay)))
+        it.stop_book()
+        self.quick(report("kept", more=delay), 1)
+        self.assertTrue(waited(lambda: it.waiting() == 1))
+        it.start_book()
+        self.assertTrue(waited(lambda: set(self.rows()) == {"live", "kept"}))
+        live, kept = (int(self.rows()[name]["last"]) for name in ("live", "kept"))
+        self.assertLess(abs(kept - live), 60)
+        self.assertLess(live, time.time() - 10**9)
 
     def test_what_is_lost_of_a_kept_report(self):
         """A delay of a wrong form, and a device's address, which is no device then."""
@@ -336,7 +387,7 @@ class Exact(OneLab):
         """The rest of it is another one's: neither is charged, and a person may see both."""
 
         def cut_two(text):
-            *records, _ = text.split(b"\n\n")
+            *records, _ = re.split(b"\n\n+", text)
             for n, end in ((0, 8), (2, 0)):
                 records[n : n + 1] = [records[n][: records[n].index(b"\tAcct-Input") + end]]
             return b"%b%b\n\n%b%b\n\n%b\n\n%b\n\n" % tuple(records)

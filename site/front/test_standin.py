@@ -142,7 +142,7 @@ class Book:
                     plan, login, payer = it
                     break
             total = [number(42) + (number(52) << 32), number(43) + (number(53) << 32)]
-            if not payer or sum(total) >= LIMIT or number(41) > now:
+            if not payer or sum(total) >= LIMIT:
                 return False
             own = first[ID]
             key = (

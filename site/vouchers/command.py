@@ -71,7 +71,8 @@ def main(words):
         elif words.act == "print":
             from radacctd_site.core import paper
             from radacctd_site.vouchers import pages
-            print(paper.page("vouchers/sheet.html", pages.values(db, words.sheet)))
+            page = paper.page("vouchers/sheet.html", pages.values(db, words.sheet))
+            print(names.plain(page, "\n\xa0"))
         else:
             withdraw(db, book, words)
     return 0
