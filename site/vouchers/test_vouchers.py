@@ -100,6 +100,12 @@ class Redeeming(Sheet):
                          dict.fromkeys(self.codes, [desk.DIFFERS, desk.DIFFERS, desk.NEW]))
 
 
+    def test_a_sheet_has_nothing_for_a_terminal(self):
+        with self.db:
+            self.db.execute("UPDATE code SET code = ? WHERE code = ?", ("\x1b]0;x\x07", self.codes[0]))
+        self.assertNotIn("\x1b", self.run_it("voucher", "print", self.sheet))
+
+
 class Withdrawing(Sheet):
     def test_a_sheet_is_withdrawn_and_what_was_spent_is_said(self):
         self.redeem("al", self.codes[0])
