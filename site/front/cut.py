@@ -68,8 +68,7 @@ def request(session, server, now):
 
 
 def ask(server, requests):
-    """Has radclient send them. It reads the secret from memory, not from its arguments. The check
-    reads in the journal who answers none."""
+    """Has radclient send them. It reads the secret from memory, not from its arguments."""
     with open(os.memfd_create("secret"), "w", encoding="utf-8") as secret:
         print(server["secret"], file=secret, flush=True)
         words = ["radclient", "-qs", "-S", f"/proc/self/fd/{secret.fileno()}", "-p", "20",
@@ -105,21 +104,15 @@ def send_again(kept, now):
 
 
 def main(folder):
-    said = {}
     while True:
         began = time.monotonic()
         files = (pathlib.Path(folder, it) for it in ("settings.conf", "clients.conf"))
         settings, clients = (it.read_text(encoding="utf-8") for it in files)
         for work, of in ((cut, (settings, clients)), (send_again, (value(settings, "kept"),))):
-            fault = ""
             try:
                 work(*of, int(time.time()))
             except (OSError, ValueError, KeyError) as why:
-                fault = f"not done: {why!r}"
-            # One that lasts is said once.
-            if fault and fault != said.get(work):
-                print(fault, flush=True)
-            said[work] = fault
+                print(f"not done: {why!r}", flush=True)
         time.sleep(max(1, MINUTE - (time.monotonic() - began)))
 
 
