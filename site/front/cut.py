@@ -28,8 +28,7 @@ def value(text, name):
 
 
 def servers(text):
-    """Who can be asked to end a session, of clients.conf: by NAS-Identifier, and by address. Of a
-    network all members are asked: those without that session refuse."""
+    """Who can end a session, by NAS-Identifier and address. Of a network all members are asked."""
     found = {}
     for name, block in BLOCK.findall(text):
         members = re.findall(r"[^\s,]+", value(block, "members"))
@@ -57,8 +56,7 @@ def overruns(settings):
 
 
 def request(session, server, now):
-    """A Disconnect-Request as radclient reads it: each attribute by its number and in hex, so that
-    no text of a report is read as anything else."""
+    """A Disconnect-Request for radclient: attributes by number and in hex, so no text is read."""
     names = {SESSION: "id", STATION: "calling"}
     if server["user_name"] == "yes":
         names[USER_NAME] = "account"

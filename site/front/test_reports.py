@@ -2,6 +2,7 @@
 import os
 import pathlib
 import re
+import socket
 import signal
 import subprocess
 import threading
@@ -185,6 +186,21 @@ class Answers(OneLab):
         it.stop_book()
         it.start_book()
         self.assertTrue(waited(lambda: len(self.rows()) == 4 and it.waiting() == 0))
+
+    def test_a_burst(self):
+        """3,000 reports at once in an outage: all threads write one file, and each is charged later."""
+        it, given = self.lab, self.given()
+        it.stop_book()
+        for first in range(0, 3000, 250):
+            with socket.socket(socket.AF_INET, socket.SOCK_DGRAM) as sender:
+                for n in range(first, first + 250):
+                    pairs = report(f"n{n}", more=[(CLASS, given)])
+                    packet = radius.report_packet(pairs, n % 250)
+                    sender.sendto(packet, ("127.0.0.1", it.reports))
+        self.assertTrue(waited(lambda: it.waiting() == 3000, 30))
+        it.start_book()
+        self.assertTrue(waited(lambda: len(self.rows()) == 3000, 300))
+        self.assertEqual({row["class"] for row in self.rows().values()}, {"gold"})
 
     def test_taken_for_dead(self):
         """FreeRADIUS takes radacctd for dead, here after two timeouts: what comes then is kept."""
@@ -396,6 +412,37 @@ class Exact(OneLab):
         self.assertTrue(waited(lambda: len(self.rows()) == 2 and self.lab.waiting() == 0))
         self.assertEqual(self.lab.waiting("lost"), 4)
         self.assertEqual({row["total"] for row in self.rows().values()}, {"1000"})
+
+    def test_a_cut_record_waits_for_space(self):
+        """It is for a person to see, and is gone from where it was only once it is in `lost`."""
+        it, lost = self.lab, os.path.join(self.lab.kept, "lost")
+        words = ["mount", "-t", "tmpfs", "-o", "size=4k,mode=0700,uid=freerad", "none", lost]
+        subprocess.run(words, check=True)
+        try:
+            pathlib.Path(lost, "full").write_bytes(bytes(4096))
+            one, two = report("one"), report("two")
+            self.kept([one, two], lambda text: text.replace(text[text.index(b"\tAcct-In") :], b"")
+                      + text.split(b"\n\n")[1] + b"\n\n")
+            time.sleep(12)
+            self.assertGreater(it.waiting(), 0)
+        finally:
+            it.stop_front()
+            subprocess.run(["umount", lost], check=True)
+            it.start_front()
+        self.assertTrue(waited(lambda: it.waiting() == 0 and it.waiting("lost") > 0))
+
+    def test_moved_back_by_hand(self):
+        """A late one that a person puts into `again`: detail writes none where its reader reads."""
+        it = self.lab
+        it.stop_book()
+        self.quick(report("old", more=[(41, 90000)]), 1)
+        self.assertTrue(waited(lambda: it.waiting() == 1))
+        it.stop_front()
+        for path in pathlib.Path(it.kept, "waits").iterdir():
+            path.rename(pathlib.Path(it.kept, "again", path.name))
+        it.start_book()
+        it.start_front()
+        self.assertTrue(waited(lambda: "old" in self.rows()))
 
     def test_an_outage_moves_no_moment(self):
         it = self.lab
