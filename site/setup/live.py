@@ -38,6 +38,9 @@ FRONT, KEPT = "/etc/radacctd-front", "/var/lib/radacctd-front"
 SETTINGS, CERTIFICATE = f"{FRONT}/settings.conf", f"{FRONT}/certs/server.pem"
 CONFIG, COPIES, BOOK = "/etc/radacctd.toml", "/var/backups/radacctd", "/var/lib/radacctd/book"
 SITE = "/var/lib/radacctd-site"
+# The cure of a damaged store, as it is printed; nobody is asked.
+PRINTED = "radacctl setup --check | sed -n 's/^store-wrong: .*[.] Do: \\(.*\\)/\\1 --yes/p' | sed " \
+          f"s/site-DATE/$(basename $(ls -d {COPIES}/site-* | tail -n 1))/ | sh"
 USERS = f"setsid -w runuser -u radacctd-site -- sqlite3 -safe {SITE}/users.db"
 # A report with a wrong secret, straight to radacctd, and to FreeRADIUS.
 WRONG = "echo 'User-Name=a,Acct-Status-Type=Start,Acct-Session-Id=1"
@@ -148,6 +151,8 @@ BREAKS = {
                     "sleep 1", "systemctl stop lock; systemctl reset-failed"),
     "store-wrong 2": (f"chown root: {SITE}/users.db",
                       f"chown radacctd-site:freerad {SITE}/users.db"),
+    "store-wrong 3": (f"{USERS} 'CREATE VIEW other AS SELECT 1'", PRINTED),
+    "store-wrong 4": (f"printf x | dd of={SITE}/site.db conv=notrunc", PRINTED),
     "desk-open": appended("RADACCTD_DESK_BIND=0.0.0.0\\n", "/etc/default/radacctd",
                           "systemctl restart radacctd"),
     "front-wrong 5": edited("s/observe = no/observe = yes/", SETTINGS, RESTART),
@@ -267,6 +272,18 @@ def hears_nothing(box):
     check("and no more once a report came", found, True)
 
 
+def is_refused(box):
+    """A report that radacctd never takes goes aside, by the unit as it is shut in."""
+    text = box.must(f"cat {FRONT}/clients.conf")
+    secret = re.search(r"(?s)client hall \{.*?secret = '(\S+)'", text)[1]
+    sent = f"{WRONG},NAS-Identifier=hall,Acct-Input-Octets=4294967295," \
+           "Acct-Input-Gigawords=4294967295,Packet-Src-IP-Address=127.0.0.20'"
+    box.run(f"{sent} | radclient -r 1 -t 1 127.0.0.1 acct {secret}")
+    found = served.until(lambda: box.must(f"ls {KEPT}/aside"), 60, 1)
+    check("what radacctd refuses goes aside", bool(found), True)
+    box.must(f"rm {KEPT}/aside/*")
+
+
 def has_no_name(box):
     """The pages' name is told of until it has an address."""
     is_told = lambda: any(it.startswith("host-unknown: ") for it in start_site.faults(box)[1])
@@ -276,7 +293,7 @@ def has_no_name(box):
 
 
 PARTS = {"again": done_again, "lost": loses_its_book, "outside": from_outside,
-         "silent": hears_nothing, "name": has_no_name}
+         "silent": hears_nothing, "refused": is_refused, "name": has_no_name}
 
 
 def main():
