@@ -22,9 +22,9 @@ TRY = "import sqlite3, sys; it = sqlite3.connect(sys.argv[1]); it.isolation_leve
       "('view', 'trigger')).fetchone() or said)"
 CURES = {"locked": "end who has it open: ls -l /proc/*/fd | grep {path}",
          "open database|readonly|disk I/O": "chown -h {user}: {path}*; its disk may be read-only",
-         "": "systemctl stop radacctd-site.socket radacctd-site radacctd-minute.timer radacctd-front; "
-             "setsid -w runuser -u {user} -- sh -c 'umask 077; for it in {path}*; do mv $it $it.bad; "
-             "done; cat >{path}' <{backups}/site-DATE/{name} 2>&1 | cat -v; radacctl setup"}
+         "": "systemctl stop 'radacctd-*'; setsid -w runuser -u {user} -- sh -c 'umask 077; for it in "
+             "{path} {path}-wal {path}-shm; do mv $it $it.$(date +%s); done; cat >{path}' "
+             "<{backups}/site-DATE/{name} 2>&1 | cat -v; radacctl setup"}
 
 
 def secrets(path, clients):

@@ -431,6 +431,24 @@ class Exact(OneLab):
             it.start_front()
         self.assertTrue(waited(lambda: it.waiting() == 0 and it.waiting("lost") > 0))
 
+    def test_a_late_one_on_a_full_disk(self):
+        """It cannot go apart: so it is tried where it is, and holds up nobody."""
+        it, again = self.lab, os.path.join(self.lab.kept, "again")
+        words = ["mount", "-t", "tmpfs", "-o", "size=4k,mode=0700,uid=freerad", "none", again]
+        subprocess.run(words, check=True)
+        try:
+            pathlib.Path(again, "full").write_bytes(bytes(4096))
+            it.stop_book()
+            self.quick(report("old", more=[(41, 90000)]), 1)
+            self.quick(report("fresh"), 1)
+            self.assertTrue(waited(lambda: it.waiting() == 2))
+            it.start_book()
+            self.assertTrue(waited(lambda: set(self.rows()) == {"old", "fresh"}, 20))
+        finally:
+            it.stop_front()
+            subprocess.run(["umount", again], check=True)
+            it.start_front()
+
     def test_moved_back_by_hand(self):
         """A late one that a person puts into `again`: detail writes none where its reader reads."""
         it = self.lab
