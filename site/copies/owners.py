@@ -14,7 +14,7 @@ sqlite3.connect(f"file:{sys.argv[1]}?mode=ro", uri=True, timeout=60).backup(new)
 said = new.execute("PRAGMA integrity_check").fetchone()[0]
 assert said == "ok", f"PRAGMA integrity_check says {said}"
 more = new.execute("SELECT name FROM sqlite_master WHERE type IN ('view', 'trigger')").fetchone()
-assert not more, f"{more} is a view or a trigger, and no table of this site's"
+assert not more, f"{more[0]!r} is a view or a trigger, and no table of this site's"
 sys.stdout.buffer.write(new.serialize())
 """
 WRITE = 'umask 077; rm -rf "$1"; exec cat >"$1"'

@@ -40,7 +40,7 @@ def make(taken):
         if os.path.exists(path):
             owners.read_store(path, user, f"{NEW}/{name}")
         elif any(os.path.exists(f"{places.FOLDER}/{it}/{name}") for it in places.names()):
-            lacks = f"the copy lacks {path}, which an older one has (is it over? remove those)"
+            lacks = f"the copy lacks {path}, which older ones have: put it back, or remove those"
     take_roots(f"{NEW}/{kept.ROOTS}")
     lacks = postgres.dump(f"{NEW}/{kept.DUMP}") or lacks
     moment = time.strftime("%F %T", time.localtime(taken))

@@ -253,7 +253,7 @@ class Taking(Site):
         self.patch(places, NIGHTS=1)
         os.rename(f"{self.top}/site/site.db", f"{self.top}/site/away")
         for nights in (2, 3):
-            self.assertRaisesRegex(Failed, "lacks .*site.db, which an older one has", self.night)
+            self.assertRaisesRegex(Failed, "lacks .*site.db, which older ones have", self.night)
             self.assertEqual(len(places.names()), nights)
             self.assertIn("lacks", kept.check(f"{places.FOLDER}/{places.names()[-1]}"))
             time.sleep(1)

@@ -18,8 +18,8 @@ MOST = 5000
 # the place of a table may have no end: who reads it stands still.
 TRY = "import sqlite3, sys; it = sqlite3.connect(sys.argv[1]); it.isolation_level = None; " \
       "said = it.execute('PRAGMA quick_check').fetchone(); it.execute('BEGIN IMMEDIATE'); " \
-      "print(*it.execute('SELECT type FROM sqlite_master WHERE type IN (?, ?)', " \
-      "('view', 'trigger')).fetchone() or said)"
+      "print(*it.execute('SELECT ? || type FROM sqlite_master WHERE type IN (?, ?)', " \
+      "('it has a ', 'view', 'trigger')).fetchone() or said)"
 CURES = {"locked": "end who has it open: ls -l /proc/*/fd | grep {path}",
          "open database|readonly|disk I/O": "chown -h {user}: {path}*; its disk may be read-only",
          "": "systemctl stop 'radacctd-*'; setsid -w runuser -u {user} -- sh -c 'umask 077; for it in "

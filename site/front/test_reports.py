@@ -1,9 +1,10 @@
 """Reports: answered means in the book. Attacks on a front over the program or its stand-in. Needs root."""
+import contextlib
 import os
 import pathlib
 import re
-import socket
 import signal
+import socket
 import subprocess
 import threading
 import time
@@ -67,6 +68,20 @@ class OneLab(unittest.TestCase):
         paths[0].write_bytes(change(text))
         it.start_book()
         it.start_front()
+
+    @contextlib.contextmanager
+    def full(self, name):
+        """A folder of kept reports on a disk of its own, which is full."""
+        folder = os.path.join(self.lab.kept, name)
+        words = ["mount", "-t", "tmpfs", "-o", "size=4k,mode=0700,uid=freerad", "none", folder]
+        subprocess.run(words, check=True)
+        try:
+            pathlib.Path(folder, "full").write_bytes(bytes(4096))
+            yield
+        finally:
+            self.lab.stop_front()
+            subprocess.run(["umount", folder], check=True)
+            self.lab.start_front()
 
     def quick(self, pairs, tries=3):
         """As a device that gives up after a second."""
@@ -165,24 +180,16 @@ class Answers(OneLab):
             subprocess.run(["umount", waits], check=True)
             it.start_front()
 
-
     def test_a_full_disk_keeps_what_was_kept(self):
         """A report goes to the other reader only if it was written there: rlm_detail says ok."""
-        it, again = self.lab, os.path.join(self.lab.kept, "again")
-        words = ["mount", "-t", "tmpfs", "-o", "size=4k,mode=0700,uid=freerad", "none", again]
-        subprocess.run(words, check=True)
-        try:
-            pathlib.Path(again, "full").write_bytes(bytes(4096))
+        it = self.lab
+        with self.full("again"):
             it.stop_book()
             it.start_book(lab.free_port())
             for n in range(4):
                 self.quick(report(f"r{n}", more=[(41, 90000)] if n % 2 else []), 1)
             time.sleep(20)
             self.assertEqual(it.waiting(), 4)
-        finally:
-            it.stop_front()
-            subprocess.run(["umount", again], check=True)
-            it.start_front()
         it.stop_book()
         it.start_book()
         self.assertTrue(waited(lambda: len(self.rows()) == 4 and it.waiting() == 0))
@@ -415,39 +422,25 @@ class Exact(OneLab):
 
     def test_a_cut_record_waits_for_space(self):
         """It is for a person to see, and is gone from where it was only once it is in `lost`."""
-        it, lost = self.lab, os.path.join(self.lab.kept, "lost")
-        words = ["mount", "-t", "tmpfs", "-o", "size=4k,mode=0700,uid=freerad", "none", lost]
-        subprocess.run(words, check=True)
-        try:
-            pathlib.Path(lost, "full").write_bytes(bytes(4096))
+        it = self.lab
+        with self.full("lost"):
             one, two = report("one"), report("two")
             self.kept([one, two], lambda text: text.replace(text[text.index(b"\tAcct-In") :], b"")
                       + text.split(b"\n\n")[1] + b"\n\n")
             time.sleep(12)
             self.assertGreater(it.waiting(), 0)
-        finally:
-            it.stop_front()
-            subprocess.run(["umount", lost], check=True)
-            it.start_front()
         self.assertTrue(waited(lambda: it.waiting() == 0 and it.waiting("lost") > 0))
 
     def test_a_late_one_on_a_full_disk(self):
         """It cannot go apart: so it is tried where it is, and holds up nobody."""
-        it, again = self.lab, os.path.join(self.lab.kept, "again")
-        words = ["mount", "-t", "tmpfs", "-o", "size=4k,mode=0700,uid=freerad", "none", again]
-        subprocess.run(words, check=True)
-        try:
-            pathlib.Path(again, "full").write_bytes(bytes(4096))
+        it = self.lab
+        with self.full("again"):
             it.stop_book()
             self.quick(report("old", more=[(41, 90000)]), 1)
             self.quick(report("fresh"), 1)
             self.assertTrue(waited(lambda: it.waiting() == 2))
             it.start_book()
             self.assertTrue(waited(lambda: set(self.rows()) == {"old", "fresh"}, 20))
-        finally:
-            it.stop_front()
-            subprocess.run(["umount", again], check=True)
-            it.start_front()
 
     def test_moved_back_by_hand(self):
         """A late one that a person puts into `again`: detail writes none where its reader reads."""

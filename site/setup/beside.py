@@ -16,7 +16,7 @@ def seen():
     yield from failed()
     yield from clock()
     # Of those on one disk the last one is named.
-    paths = (f"{places.STATE}-front", places.USUAL, places.BACKUPS, "/etc", places.STATE)
+    paths = (f"{places.STATE}-front", places.USUAL, "/var/log", places.BACKUPS, "/etc", places.STATE)
     for path in {os.stat(it).st_dev: it for it in paths if os.path.isdir(it)}.values():
         yield from disk(path)
 

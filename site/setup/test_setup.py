@@ -683,7 +683,7 @@ class Check(Folder):
             db.execute("COMMIT")
             db.execute("CREATE VIEW radcheck AS SELECT a FROM a")
             [fault] = looks.store(self.path)
-            self.assertEqual(fault.text, f"{self.path}: view")
+            self.assertEqual(fault.text, f"{self.path}: it has a view")
         self.write(b"x" * 4096)
         [fault] = looks.store(self.path)
         self.assertIn(f"/var/backups/radacctd/site-DATE/{os.path.basename(self.path)}", fault.cure)

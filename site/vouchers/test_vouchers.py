@@ -62,9 +62,6 @@ class Redeeming(Sheet):
             [desk.NEW, desk.REPEAT, desk.DIFFERS, "no such code", "bad code"])
         self.assertEqual(self.book.credits, {f"W-{one}": ("al", 500)})
         self.assertEqual(sorted(self.states()), ["given", "live", "live", "live"])
-        # Whoever types a spent code for many names makes no rows.
-        self.assertEqual([self.redeem(f"guest {it}", one) for it in range(5)], [desk.DIFFERS] * 5)
-        self.assertEqual([it for it, in self.db.execute("SELECT account FROM act")], ["al"])
 
     def test_what_got_no_answer_waits_and_the_book_decides(self):
         """A guest typed a wrong name while the book was away, and then the right one."""
@@ -98,7 +95,6 @@ class Redeeming(Sheet):
             it.join()
         self.assertEqual({code: sorted(it) for code, it in found.items()},
                          dict.fromkeys(self.codes, [desk.DIFFERS, desk.DIFFERS, desk.NEW]))
-
 
     def test_a_sheet_has_nothing_for_a_terminal(self):
         with self.db:
