@@ -454,6 +454,7 @@ class Exact(OneLab):
         it.start_book()
         it.start_front()
         self.assertTrue(waited(lambda: "old" in self.rows()))
+        self.assertEqual(self.rows()["old"]["account"], "al")
 
     def test_an_outage_moves_no_moment(self):
         it = self.lab
