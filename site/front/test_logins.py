@@ -393,7 +393,8 @@ class Plans(OneLab):
         it.users.execute("INSERT INTO radusergroup VALUES ('both', 'two', 2), ('both', 'one', 1)")
         it.sell("both", 1000)
         self.assertEqual(stamp(it.login("both")), "up;;both")
-        self.assertEqual(radius.first(it.login("both"), (radius.MIKROTIK, 8)), b"1M")
+        rates = [it for kind, it in it.login("both").pairs if kind == (radius.MIKROTIK, 8)]
+        self.assertEqual(rates, [b"1M"])
         self.assertEqual(radius.first(it.login("both"), 11), b"two")
         it.row(it.users, "radreply", "both", "Class", "gold")
         self.assertEqual(stamp(it.login("both")), "gold;;both")
@@ -433,6 +434,15 @@ class Plans(OneLab):
         fast = it.login("ppp", more=[(7, 1)])
         self.assertEqual((stamp(fast), rate(fast)), ("gold;;ppp", b"50M/50M"))
         self.assertIsNone(radius.first(fast, 27))
+
+    def test_slow_ends_with_the_login(self):
+        it = self.lab
+        it.group("vdsl", [("Front-Slow", "snail")], Class="gold")
+        it.group("snail", Class="free", Session_Timeout="1800")
+        end = time.strftime("%b %d %Y %H:%M:%S", time.localtime(time.time() + 600))
+        it.user("ends", "vdsl", Cleartext_Password="right", Expiration=end)
+        left = [int.from_bytes(it, "big") for kind, it in it.login("ends").pairs if kind == 27]
+        self.assertEqual([590 < it < 601 for it in left], [True])
 
 
 class Codes(OneLab):
@@ -687,7 +697,12 @@ class Open(OneLab):
     def test_open(self):
         it = self.lab
         self.assertEqual(it.login("poor").code, 3)
+        it.group("day", [("Front-Valid", "1")], Class="free")
+        it.user("over", "day", Cleartext_Password="right")
+        self.assertEqual(it.login("over").code, 2)
         it.stop_book()
+        time.sleep(1.5)
+        self.assertEqual(it.login("over").code, 3)
         for name in ("al", "poor"):
             reply = it.login(name)
             self.assertEqual((reply.code, stamp(reply)), (2, None))

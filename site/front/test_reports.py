@@ -385,6 +385,18 @@ class Exact(OneLab):
         self.assertEqual(self.rows()["where"]["client"].rstrip("/"), "front")
         self.assertLess(abs(time.time() - int(self.rows()["late"]["last"])), 60)
 
+    def test_a_station_that_is_too_long(self):
+        """It would be a line too long for FreeRADIUS' reader, which deletes what is kept of all."""
+        it, stations = self.lab, (b"02-01", b"\xff" * 249, b"\n" * 250, b"\xff" * 253, b"02-02")
+        it.stop_book()
+        for n, station in enumerate(stations):
+            self.quick(report(f"s{n}", more=[(STATION, station)]), 1)
+        self.assertTrue(waited(lambda: it.waiting() == len(stations)))
+        it.start_book()
+        self.assertTrue(waited(lambda: len(self.rows()) == len(stations)))
+        found = [urllib.parse.unquote_to_bytes(self.rows()[f"s{n}"]["calling"]) for n in range(5)]
+        self.assertEqual(found, [*stations[:2], b"", b"", stations[4]])
+
     def test_names_without_a_stamp(self):
         it = self.lab
         names = (b"%{User-Name}", b'x%{a}\\b"c\n', b"\xff%{", b"0x616c", b"\\n", b"a\0b", b"a" * 253)
@@ -404,7 +416,7 @@ class Exact(OneLab):
         ahead_all = lambda it: re.sub(rb"Front-Since = (\d+)", ahead, it)
         self.kept([report("old", more=[(41, 100000)])], ahead_all)
         self.assertTrue(waited(lambda: "old" in self.rows()))
-        self.assertLess(abs(sent - 100000 - int(self.rows()["old"]["last"])), 5)
+        self.assertLess(abs(sent - 100000 - int(self.rows()["old"]["last"])), 20)
 
     def test_a_record_that_was_cut(self):
         """The rest of it is another one's: neither is charged, and a person may see both."""
