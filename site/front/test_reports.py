@@ -455,17 +455,18 @@ class Exact(OneLab):
             self.assertTrue(waited(lambda: set(self.rows()) == {"old", "fresh"}, 20))
 
     def test_moved_back_by_hand(self):
-        """A late one that a person puts into `again`: detail writes none where its reader reads."""
+        """Late ones that a person puts into `again`: detail writes none where its reader reads."""
         it = self.lab
         it.stop_book()
-        self.quick(report("old", more=[(41, 90000)]), 1)
-        self.assertTrue(waited(lambda: it.waiting() == 1))
+        for pairs in (bad("bad", more=[(41, 90000)]), report("old", more=[(41, 90000)])):
+            self.quick(pairs, 1)
+        self.assertTrue(waited(lambda: it.waiting() == 2))
         it.stop_front()
         for path in pathlib.Path(it.kept, "waits").iterdir():
             path.rename(pathlib.Path(it.kept, "again", path.name))
         it.start_book()
         it.start_front()
-        self.assertTrue(waited(lambda: "old" in self.rows()))
+        self.assertTrue(waited(lambda: "old" in self.rows() and it.waiting("aside") == 1))
         self.assertEqual(self.rows()["old"]["account"], "al")
 
     def test_an_outage_moves_no_moment(self):
