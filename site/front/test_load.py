@@ -137,7 +137,7 @@ class Ends(unittest.TestCase):
             for n in range(count):
                 it.start_front()
                 stop = threading.Event()
-                reports = threading.Thread(target=self.reports, args=(it, stop))
+                reports = threading.Thread(target=self.reports, args=(it, stop), daemon=True)
                 reports.start()
                 ended, _ = logins_at_once(it.logins, 400, again=2, longest=8)
                 self.assertIsNone(it.front.poll(), f"start {n}: ended by itself, {it.log()[-500:]}")
