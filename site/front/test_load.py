@@ -139,7 +139,7 @@ class Ends(unittest.TestCase):
                 stop = threading.Event()
                 reports = threading.Thread(target=self.reports, args=(it, stop), daemon=True)
                 reports.start()
-                ended, _ = logins_at_once(it.logins, 400, again=2, longest=8)
+                ended, _ = logins_at_once(it.logins, 400, again=2)
                 self.assertIsNone(it.front.poll(), f"start {n}: ended by itself, {it.log()[-500:]}")
                 # On a busy machine the desk may take more than its second: that is a refusal.
                 self.assertNotIn("silence", ended)
